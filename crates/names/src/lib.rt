@@ -1,0 +1,1 @@
+// White space, the bytes of names, and names as runs of bytes.
