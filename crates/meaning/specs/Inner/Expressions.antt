@@ -1,10 +1,11 @@
 -- Trees in two-way form, with the empty-list question, first, last and follow as tests (documents 000 and 004). Assumes nothing.
 use mathlib.Core.Bool.{Bool, true, false, _&&_, _||_}
-use Prim.Native.Nat.{ℕ}
+use Prim.Native.Nat.{ℕ, zero, suc}
 use lib.Dec.{eqb}
 use Rattle.model.specs.declared.Mark.{Mark}
 use Rattle.model.specs.declared.Mark.the-variants.{Plain, Optional, Star, Plus}
 use Rattle.meaning.specs.Trees.{Tree, leaf, sequence, choice, Members, last, and}
+use Rattle.meaning.specs.Slots.{slots}
 
 -- a name, a marked expression, two in order, either of two
 pub data Expr (A : Type 0) : Type 0 where
@@ -68,3 +69,17 @@ follow (symbol a) x y = false
 follow (marked m r) x y = follow r x y || (repeats m && (final r x && first r y))
 follow (seq r s) x y = follow r x y || (follow s x y || (final r x && first s y))
 follow (alt r s) x y = follow r x y || follow s x y
+
+-- the tests of a whole model are made of its slots
+abbrev pub slotted : {A : Type 0} → Tree A → Expr ℕ
+slotted t = expr (slots 1 t)
+
+-- can x come next after p, or first if p is 0?
+abbrev pub next : Expr ℕ → ℕ → ℕ → Bool
+next r zero x = first r x
+next r (suc p) x = follow r (suc p) x
+
+-- can s end a list, the empty one if s is 0?
+abbrev pub ends : Expr ℕ → ℕ → Bool
+ends r zero = nullable r
+ends r (suc s) = final r (suc s)
