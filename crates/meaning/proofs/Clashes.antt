@@ -9,7 +9,7 @@ use native.Mathlib.Decide.{decLt}
 use lib.ListN.{length}
 use Rattle.meaning.specs.Trees.{Tree, leaves}
 use Rattle.meaning.specs.Slots.{slots, Numbered, named}
-use Rattle.meaning.specs.Clashes.{ending, Ambiguous, Clash, FirstClash}
+use Rattle.meaning.specs.Clashes.{ending, Parts, Ambiguous, Clash, FirstClash}
 use Rattle.meaning.specs.Runs.{Next, Ends}
 use Rattle.meaning.specs.Inner.Expressions.{Expr, slotted, next, ends}
 use Rattle.meaning.proofs.Sets.{Lang, Null, First, Final, Follow, Chain, stop, step, Walk, empty, start}
@@ -138,13 +138,13 @@ module _ {A : Type 0} (t : Tree A) where
   clash-from : (p x y : ℕ) → Next t p x × Next t p y × (named t x ≡ named t y) × (x < y) → Clash t p x y
   clash-from p x y h =
       let b = next-both p x y (next-goes p x .0 (h .0)) (next-goes p y .0 (h .1)) in
-      record { beginning = b .0; after-x = b .1; after-y = b .2; at = b .3; one = b .4; two = b .5; same = h .2; order = h .3 }
+      record { u = b .0; at = b .3; parts = record { after-x = b .1; after-y = b .2; one = b .4; two = b .5; same = h .2 }; order = h .3 }
 
   clash-to : (p x y : ℕ) → Clash t p x y → Next t p x × Next t p y × (named t x ≡ named t y) × (x < y)
   clash-to p x y c = (
-    record { beginning = c .beginning; after = c .after-x; at = c .at; allowed = c .one },
-    record { beginning = c .beginning; after = c .after-y; at = c .at; allowed = c .two },
-    c .same,
+    record { beginning = c .u; after = c .parts .after-x; at = c .at; allowed = c .parts .one },
+    record { beginning = c .u; after = c .parts .after-y; at = c .at; allowed = c .parts .two },
+    c .parts .same,
     c .order,
   )
 
@@ -153,17 +153,18 @@ module _ {A : Type 0} (t : Tree A) where
   clash-correct p x y = (clash-to p x y, clash-from p x y)
 
   -- a model is ambiguous exactly where it has a clash
+  parts-turned : (u : List ℕ) (x y : ℕ) → Parts t u x y → Parts t u y x
+  parts-turned u x y c = record { after-x = c .after-y; after-y = c .after-x; one = c .two; two = c .one; same = sym (c .same) }
+
   ambiguous-to : Ambiguous t → (p x y : ℕ) × Clash t p x y
   ambiguous-to a = go (decLt (a .x) (a .y))
     where
       go : Dec (a .x < a .y) → (p x y : ℕ) × Clash t p x y
-      go (yes h) = (ending 0 (a .beginning), a .x, a .y, record { beginning = a .beginning; after-x = a .after-x; after-y = a .after-y; at = refl; one = a .one; two = a .two; same = a .same; order = h })
-      go (no h) = (ending 0 (a .beginning), a .y, a .x, record { beginning = a .beginning; after-x = a .after-y; after-y = a .after-x; at = refl; one = a .two; two = a .one; same = sym (a .same); order = omega (arith, h, a .differ) })
+      go (yes h) = (ending 0 (a .u), a .x, a .y, record { u = a .u; at = refl; parts = a .parts; order = h })
+      go (no h) = (ending 0 (a .u), a .y, a .x, record { u = a .u; at = refl; parts = parts-turned (a .u) (a .x) (a .y) (a .parts); order = omega (arith, h, a .differ) })
 
   ambiguous-from : (p x y : ℕ) × Clash t p x y → Ambiguous t
-  ambiguous-from s =
-      let c = s .3 in
-      record { beginning = c .beginning; x = s .1; y = s .2; after-x = c .after-x; after-y = c .after-y; one = c .one; two = c .two; differ = omega (arith, c .order); same = c .same }
+  ambiguous-from s = let c = s .3 in record { u = c .u; x = s .1; y = s .2; parts = c .parts; differ = omega (arith, c .order) }
 
   pub ambiguous-clash : Ambiguous t ↔ ((p x y : ℕ) × Clash t p x y)
   ambiguous-clash = (ambiguous-to, ambiguous-from)

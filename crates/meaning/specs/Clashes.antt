@@ -12,27 +12,27 @@ ending p [] = p
 ending p (x ∷ u) = ending x u
 
 module _ {A : Type 0} (t : Tree A) where
-  -- two allowed numbered lists share a beginning, and then go to different slots of the same name
-  pub record Ambiguous : Type 0 where
-    pub beginning : List ℕ
-    pub x : ℕ
-    pub y : ℕ
+  -- two allowed numbered lists share the beginning u, and then go to x and to y, slots of the same name
+  pub record Parts (u : List ℕ) (x y : ℕ) : Type 0 where
     pub after-x : List ℕ
     pub after-y : List ℕ
-    pub one : Numbered t (beginning ++ (x ∷ after-x))
-    pub two : Numbered t (beginning ++ (y ∷ after-y))
-    pub differ : x ≢ y
+    pub one : Numbered t (u ++ (x ∷ after-x))
+    pub two : Numbered t (u ++ (y ∷ after-y))
     pub same : named t x ≡ named t y
 
-  -- the same, with p the last slot of the beginning, or 0 if that is empty, and x < y
+  -- a model is ambiguous if two lists do so at different slots
+  pub record Ambiguous : Type 0 where
+    pub u : List ℕ
+    pub x : ℕ
+    pub y : ℕ
+    pub parts : Parts u x y
+    pub differ : x ≢ y
+
+  -- p is the last slot of u, or 0 if u is empty, and x < y
   pub record Clash (p x y : ℕ) : Type 0 where
-    pub beginning : List ℕ
-    pub after-x : List ℕ
-    pub after-y : List ℕ
-    pub at : ending 0 beginning ≡ p
-    pub one : Numbered t (beginning ++ (x ∷ after-x))
-    pub two : Numbered t (beginning ++ (y ∷ after-y))
-    pub same : named t x ≡ named t y
+    pub u : List ℕ
+    pub at : ending 0 u ≡ p
+    pub parts : Parts u x y
     pub order : x < y
 
   -- the clash shown: the smallest p, then the smallest x, then the smallest y
