@@ -40,7 +40,7 @@ stops-test : (r : Expr ℕ) (s : ℕ) → (ends r s ≡ true) ↔ Stops r s
 stops-test r zero = null-correct r
 stops-test r (suc s) = final-correct r (suc s)
 
-ending-snoc : (p q : ℕ) (u : List ℕ) → ending p (u ++ (q ∷ [])) ≡ q
+pub ending-snoc : (p q : ℕ) (u : List ℕ) → ending p (u ++ (q ∷ [])) ≡ q
 ending-snoc p q [] = refl
 ending-snoc p q (x ∷ u) = ending-snoc x q u
 

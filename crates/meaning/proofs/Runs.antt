@@ -151,6 +151,32 @@ module _ {A : Type 0} (t : Tree A) where
           let u = h .1 .slots in
           names-correct t w .1 (u, trail-allowed u (marks-trail w u (h .1 .marks)) (subst (Ends t) (sym (h .1 .at)) (h .2)), h .1 .marks .names)
 
+  -- ---- one name more
+  -- no name is marked by no slot
+  pub marks-none : Marks t [] []
+  marks-none = trail-marks [] done
+
+  trail-snoc : {p : ℕ} (u : List ℕ) (x : ℕ) → Trail p u → Goes (slotted t) (ending p u) x → Trail p (u ++ (x ∷ []))
+  trail-snoc [] x done f = goes f done
+  trail-snoc (y ∷ u) x (goes g r) f = goes g (trail-snoc u x r f)
+
+  -- names that are marked, and one more that a step leads from their last slot
+  pub marks-step : (w : List A) (u : List ℕ) (a : A) (x : ℕ) → Marks t w u → Step t (ending 0 u) a x → Marks t (w ++ (a ∷ [])) (u ++ (x ∷ []))
+  marks-step w u a x h s =
+      let m = trail-marks (u ++ (x ∷ [])) (trail-snoc u x (marks-trail w u h) (next-goes t (ending 0 u) x .0 (s .next))) in
+      record { rest = m .rest; allowed = m .allowed; names = map-append (named t) u (x ∷ []) ∙ ap₂ (λ l b. l ++ (b ∷ [])) (h .names) (s .name) }
+
+  -- slots that are marked and come to one that may end a list are an allowed numbered list
+  pub marks-allowed : (w : List A) (u : List ℕ) → Marks t w u → Ends t (ending 0 u) → Numbered t u
+  marks-allowed w u h e = trail-allowed u (marks-trail w u h) e
+
+  run-split : {p q : ℕ} (w z : List A) → Run t p (w ++ z) q → (m : ℕ) × Run t p w m × Run t m z q
+  run-split {p} [] z r = (p, here, r)
+  run-split (a ∷ w) z (move s r) = let h = run-split w z r in (h .0, move s (h .1), h .2)
+
+  run-one : {p q : ℕ} {a : A} → Run t p (a ∷ []) q → Step t p a q
+  run-one (move s here) = s
+
   -- ---- with no ambiguity
   module _ (clear : ¬ Ambiguous t) where
     goes-unique : (p x y : ℕ) → Goes (slotted t) p x → Goes (slotted t) p y → named t x ≡ named t y → x ≡ y
@@ -185,3 +211,17 @@ module _ {A : Type 0} (t : Tree A) where
     held-unique w s h u v k e =
         let m : u ≡ h .slots = marks-unique w u (h .slots) record { rest = v; allowed = k; names = e } (h .marks) in
         ap (ending 0) m ∙ h .at
+
+    -- names that are marked, and one more that no step leads from their last slot, begin no allowed list
+    pub marks-stop : (w : List A) (u : List ℕ) (a : A) → Marks t w u → ((x : ℕ) → Step t (ending 0 u) a x → ⊥) → Begins t (w ++ (a ∷ [])) → ⊥
+    marks-stop w u a h n b =
+        let k = held-begins (w ++ (a ∷ [])) .1 b in
+        let r = run-split w (a ∷ []) (run-held (w ++ (a ∷ [])) (k .0) .1 (k .1)) in
+        let e : ending 0 u ≡ r .0 = held-unique w (r .0) (run-held w (r .0) .0 (r .1)) u (h .rest) (h .allowed) (h .names) in
+        n (k .0) (subst (λ p. Step t p a (k .0)) (sym e) (run-one (r .2)))
+
+    -- names that are marked up to a slot that may not end a list are no allowed list
+    pub marks-short : (w : List A) (u : List ℕ) → Marks t w u → (Ends t (ending 0 u) → ⊥) → Allowed t w → ⊥
+    marks-short w u h n a =
+        let k = held-allowed w .0 a in
+        n (subst (Ends t) (sym (held-unique w (k .0) (k .1) u (h .rest) (h .allowed) (h .names))) (k .2))
