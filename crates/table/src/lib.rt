@@ -1,0 +1,1 @@
+// The tree table: definitions in specs/, theorems in proofs/, and no code.
