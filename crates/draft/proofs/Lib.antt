@@ -1,0 +1,2 @@
+-- The kind and the mark of the highest numbers.
+pub mod Highest
