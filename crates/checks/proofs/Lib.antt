@@ -1,0 +1,2 @@
+-- The cases of a node.
+pub mod Nodes

@@ -1,0 +1,164 @@
+-- `loader::same_at` meets its contract. Assumes nothing.
+use mathlib.Core.Path.{_≡_, ap₂, _∙_}
+use Prim.Native.Nat.{ℕ, _+_, _-_}
+use lib.ListN.{getD, take, drop}
+use Rattle.table.specs.Encoding.{sameBytes}
+use Rattle.table.specs.Inner.Draft.{Stands}
+use Rattle.table.proofs.Parts.{same-is}
+use native.Mathlib.Omega.{arith}
+use borrow.Author.Needs.{needs}
+use Rattle.loader.proofs.same_at.Statement.{statement}
+use Rattle.loader.proofs.same_at.Tie as tie
+
+mul-wide16 : tie.Need-mul-wide16
+mul-wide16 c = search needs
+
+shared-slice-read-wide16 : tie.Need-shared-slice-read-wide16
+shared-slice-read-wide16 c = c .before .before .before .before .pre .0 .some-start
+
+wide16-requires : tie.Need-wide16-requires
+wide16-requires c κs = search needs
+
+mul-wide16-2 : tie.Need-mul-wide16-2
+mul-wide16-2 c = search needs
+
+shared-slice-read-wide16-2 : tie.Need-shared-slice-read-wide16-2
+shared-slice-read-wide16-2 c = c .before .before .before .before .before .before .pre .0 .some-length
+
+wide16-requires-2 : tie.Need-wide16-requires-2
+wide16-requires-2 c κs = search needs
+
+add-b : tie.Need-add-b
+add-b c = search needs
+
+mul-wide16-3 : tie.Need-mul-wide16-3
+mul-wide16-3 c = search needs
+
+shared-slice-read-wide16-3 : tie.Need-shared-slice-read-wide16-3
+shared-slice-read-wide16-3 c = c .before .before .before .before .before .before .before .before .pre .1 .some-start
+
+wide16-requires-3 : tie.Need-wide16-requires-3
+wide16-requires-3 c κs = search needs
+
+mul-wide16-4 : tie.Need-mul-wide16-4
+mul-wide16-4 c = search needs
+
+shared-slice-read-wide16-4 : tie.Need-shared-slice-read-wide16-4
+shared-slice-read-wide16-4 c = c .before .before .before .before .before .before .before .before .before .before .pre
+    .1 .some-length
+
+wide16-requires-4 : tie.Need-wide16-requires-4
+wide16-requires-4 c κs = search needs
+
+add-d : tie.Need-add-d
+add-d c = search needs
+
+sub-same : tie.Need-sub-same
+sub-same c = search needs
+
+part-same-start : tie.Need-part-same-start
+part-same-start c = search needs
+
+part-same-end : tie.Need-part-same-end
+part-same-end c =
+    let g : Stands
+    (c .before .before .before .before .before .before .before .before .before .before .before .args .table .now)
+    (c .before .before .before .before .before .before .before .before .before .before .before .args .starts .now)
+    (c .before .before .before .before .before .before .before .before .before .before .before .args .lengths
+    .now) (c .before .before .before .before .before .before .before .before .before .before .before .args
+    .i) = c .before .before .before .before .before .before .before .before .before .before .before .pre .0 in
+    let h : Stands
+    (c .before .before .before .before .before .before .before .before .before .before .before .args .table .now)
+    (c .before .before .before .before .before .before .before .before .before .before .before .args .starts .now)
+    (c .before .before .before .before .before .before .before .before .before .before .before .args .lengths
+    .now) (c .before .before .before .before .before .before .before .before .before .before .before .args
+    .j) = c .before .before .before .before .before .before .before .before .before .before .before .pre
+    .1 in
+    let w = g .within in
+    omega (
+      arith,
+      c .before .before .before .before .before .before .wide16 .ensures .0,
+      c .before .before .before .before .wide162 .ensures .0,
+    )
+
+sub-same-2 : tie.Need-sub-same-2
+sub-same-2 c = search needs
+
+part-same-start-2 : tie.Need-part-same-start-2
+part-same-start-2 c = search needs
+
+part-same-end-2 : tie.Need-part-same-end-2
+part-same-end-2 c =
+    let g : Stands
+    (c .before .before .before .before .before .before .before .before .before .before .before .before .args .table
+    .now) (c .before .before .before .before .before .before .before .before .before .before .before .before .args
+    .starts .now)
+    (c .before .before .before .before .before .before .before .before .before .before .before .before .args
+    .lengths .now)
+    (c .before .before .before .before .before .before .before .before .before .before .before .before
+    .args .i) = c .before .before .before .before .before .before .before .before .before .before .before
+    .before .pre .0 in
+    let h : Stands
+    (c .before .before .before .before .before .before .before .before .before .before .before .before .args
+    .table .now)
+    (c .before .before .before .before .before .before .before .before .before .before .before .before .args
+    .starts .now)
+    (c .before .before .before .before .before .before .before .before .before .before .before .before
+    .args .lengths .now)
+    (c .before .before .before .before .before .before .before .before .before .before .before .before
+    .args .j) = c .before .before .before .before .before .before .before .before .before .before
+    .before .before .pre .1 in
+    let w = h .within in omega (arith, c .before .before .before .wide163 .ensures .0, c .before .wide164 .ensures .0)
+
+same-requires : tie.Need-same-requires
+same-requires c κs = search needs
+
+returns : tie.Need-returns
+returns c = let s = c .before .before .before .before .before .before .before .before .before .before .before .before
+    .before .before .args .table .now in
+    let p = c .before .before .before .before .before .before .before .before .before .before .before .before .before
+    .before .args .starts .now in
+    let q = c .before .before .before .before .before .before .before .before .before .before .before .before .before
+    .before .args .lengths .now in
+    let e : c .before .before .before .before .before .before .before .before .before .wide16 .result + c .before
+    .before .before .before .before .before .before .wide162 .result - c .before .before .before .before .before
+    .before .before .before .before .wide16 .result
+    ≡ getD q (c .before .before .before .before .before .before .before .before .before .before .before
+    .before .before .before .args .i) 0 = let z =
+    c .before .before .before .before .before .before .before .wide162 .ensures .0 in omega arith in
+    let f : c .before .before .before .before .before .wide163 .result + c .before .before .before .wide164
+    .result - c .before .before .before .before .before .wide163 .result
+    ≡ getD q (c .before .before .before .before .before .before .before .before .before .before .before .before
+    .before .before .args .j) 0 = let z = c .before .before .before .wide164 .ensures .0 in omega arith in
+    same-is _ _ (c .same .result) (c .same .ensures)
+    ∙ ap₂ sameBytes
+    (ap₂ (λ (x y : ℕ). take y (drop x s))
+    (c .before .before .before .before .before .before .before .before .before .wide16 .ensures .0) e)
+    (ap₂ (λ (x y : ℕ). take y (drop x s)) (c .before .before .before .before .before .wide163 .ensures .0) f)
+
+pub same-at-spec : {M : Type 1} → statement M
+same-at-spec =
+    tie.close
+    (tie.spec
+    mul-wide16
+    shared-slice-read-wide16
+    wide16-requires
+    mul-wide16-2
+    shared-slice-read-wide16-2
+    wide16-requires-2
+    add-b
+    mul-wide16-3
+    shared-slice-read-wide16-3
+    wide16-requires-3
+    mul-wide16-4
+    shared-slice-read-wide16-4
+    wide16-requires-4
+    add-d
+    sub-same
+    part-same-start
+    part-same-end
+    sub-same-2
+    part-same-start-2
+    part-same-end-2
+    same-requires
+    returns)
