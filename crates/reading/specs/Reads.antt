@@ -1,0 +1,40 @@
+-- What reading a model text answers (document 01, "Model text", "Tree table" and "Numbers given on refusal"). Assumes
+-- nothing.
+use mathlib.Core.List.{List, [], _∷_, _++_}
+use mathlib.Core.Path.{_≡_}
+use Prim.Native.Nat.{ℕ, _≤_, _<_}
+use lib.ListN.{length, drop}
+use Rattle.model.specs.Limits.{textLimit, tableRoom}
+use Rattle.model.specs.Refusals.{numberOf, placeOf}
+use Rattle.model.specs.declared.Refusal.{Refusal}
+use Rattle.model.specs.declared.Refusal.the-variants.{TextTooLong, TableRoom}
+use Rattle.meaning.specs.Trees.{Tree}
+use Rattle.names.specs.Bytes.{Bytes}
+use Rattle.grammar.specs.Faults.{Reads}
+use Rattle.grammar.specs.Faults
+use Rattle.table.specs.Encoding.{encode}
+use Rattle.reading.specs.declared.Outcome.{Outcome}
+use Rattle.reading.specs.declared.Outcome.the-variants.{Table, Refused}
+
+-- the answer's values: the table's length; a refusal's number and place
+abbrev pub valuesOf : Outcome → List ℕ
+valuesOf (Table n) = n ∷ []
+valuesOf (Refused f) = numberOf f ∷ placeOf f ∷ []
+
+-- a text and a table room that 1 and 2 do not refuse
+pub record Admitted (text room : Bytes) : Type 0 where
+  pub short : length text ≤ textLimit
+  pub wide : tableRoom ≤ length room
+
+-- "Reading: 1, 2, then the least place among 3 to 8"
+pub data Told (text room : Bytes) : Refusal → Type 0 where
+  fault-1 : textLimit < length text → Told text room TextTooLong
+  fault-2 : length text ≤ textLimit → length room < tableRoom → Told text room TableRoom
+  of-text : {f : Refusal} → Admitted text room → Faults.Refused text f → Told text room f
+
+-- the table of the model that the text is read as is written, its length is told, and the bytes past it stay; or the
+-- refusal is told, and no byte changes
+abbrev pub ReadAnswer : Bytes → Bytes → Outcome → Bytes → Type 0
+ReadAnswer text room (Table n) room′ =
+    (t : Tree Bytes) × Reads text t × Admitted text room × (n ≡ length (encode t)) × (room′ ≡ encode t ++ drop n room)
+ReadAnswer text room (Refused f) room′ = Told text room f × (room′ ≡ room)
