@@ -1,0 +1,183 @@
+-- Matching and a single step have one answer only, and leave one room only. Assumes nothing.
+use mathlib.Core.List.{List, [], _∷_, _++_, append-assoc}
+use mathlib.Core.Path.{_≡_, refl, sym, ap, ap₂, subst, _∙_}
+use Prim.Native.Nat.{ℕ, _-_, _≤_, _<_}
+use native.Mathlib.Omega.{arith}
+use native.Mathlib.Decide.{decLt}
+use lib.ListN.{length, take, drop, take-append-drop}
+use lib.Seq.{take-take}
+use Rattle.model.specs.Limits.{slotRoom}
+use Rattle.model.specs.declared.Slot.{Slot}
+use Rattle.model.specs.declared.Refusal.{Refusal}
+use Rattle.model.specs.declared.Refusal.the-variants.{Ambiguous as Clashing, SlotRoom, NoSuchSlot}
+use Rattle.meaning.specs.Trees.{Tree, leaves}
+use Rattle.meaning.specs.Lists.{Allowed, Begins}
+use Rattle.meaning.specs.Slots.{Numbered, named}
+use Rattle.meaning.specs.Clashes.{ending, Ambiguous, FirstClash}
+use Rattle.meaning.specs.Runs.{Marks, Held, Step}
+use Rattle.meaning.proofs.Main.{ambiguous-clash, first-clash-unique}
+use Rattle.meaning.proofs.Runs.{held-begins, marks-unique, step-unique}
+use Rattle.names.specs.Bytes.{Bytes}
+use Rattle.children.specs.Words.{Words}
+use Rattle.children.proofs.Main.{words-unique, words-not-refused, refused-unique as children-unique}
+use Rattle.table.specs.Models.{Loads}
+use Rattle.table.proofs.Main.{loads-unique, loads-free, refused-unique}
+use Rattle.matching.specs.Passed.{Passed, NotPassed, refused, ambiguous}
+use Rattle.matching.specs.Matches.{Says, Answers, MatchRefused, by-model, by-room, by-children, Placed, MatchAnswer}
+use Rattle.matching.specs.Steps.{StepRefused, by-slot, From, StepAnswer}
+use Rattle.matching.specs.Steps
+use Rattle.matching.specs.declared.Matched.{Matched}
+use Rattle.matching.specs.declared.Matched.the-variants.{Allowed as IsAllowed, Stopped, Short, Refused as Stop}
+use Rattle.matching.specs.declared.Stepped.{Stepped}
+use Rattle.matching.specs.declared.Stepped.the-variants.{Next, Nowhere, Refused as Refuse}
+
+slot : ℕ → Slot
+slot n = record { 0 = n }
+
+slot-unique : (s r : Slot) → s .0 ≡ r .0 → s ≡ r
+unfolding slot
+slot-unique s r e = ap slot e
+
+-- ---- a table has one passed model, or one refusal, and never both
+pub passed-unique : (table : Bytes) (t u : Tree Bytes) → Passed table t → Passed table u → t ≡ u
+passed-unique table t u p q = loads-unique table t u (p .loads) (q .loads)
+
+clash-ambiguous : (t : Tree Bytes) (p x y : ℕ) → FirstClash t p x y → Ambiguous t
+clash-ambiguous t p x y c = ambiguous-clash t .1 (p, x, y, c .clash)
+
+pub passed-free : (table : Bytes) (t : Tree Bytes) {f : Refusal} → Passed table t → NotPassed table f → ⊥
+passed-free table t p (refused r) = loads-free table t (p .loads) _ r
+passed-free table t p (ambiguous {p = a} {x = x} {y = y} u l c) = p .clear (clash-ambiguous t (a .0) (x .0) (y .0) (subst (λ v. FirstClash v (a .0) (x .0) (y .0)) (loads-unique table u t l (p .loads)) c))
+
+pub not-passed-unique : (table : Bytes) {f g : Refusal} → NotPassed table f → NotPassed table g → f ≡ g
+not-passed-unique table (refused r) (refused s) = refused-unique table _ _ r s
+not-passed-unique table (refused r) (ambiguous u l c) = absurd (loads-free table u l _ r)
+not-passed-unique table (ambiguous u l c) (refused s) = absurd (loads-free table u l _ s)
+not-passed-unique table (ambiguous {p = a} {x = x} {y = y} t l c) (ambiguous {p = b} {x = v} {y = w} u m d) =
+    let e = first-clash-unique t (a .0) (x .0) (y .0) (b .0) (v .0) (w .0) c (subst (λ z. FirstClash z (b .0) (v .0) (w .0)) (loads-unique table u t m l) d) in
+    let i = slot-unique a b (e .0) in
+    let j = slot-unique x v (e .1) in
+    let k = slot-unique y w (e .2) in
+    ap (λ z. Clashing z x y) i ∙ ap (λ z. Clashing b z y) j ∙ ap (λ z. Clashing b v z) k
+
+-- ---- the answer on a model
+module _ (t : Tree Bytes) where
+  begins-less : (ws : List Bytes) (k : ℕ) → Begins t ws → Begins t (take k ws)
+  begins-less ws k b = (drop k ws ++ b .0, subst (Allowed t) (ap (λ l. l ++ b .0) (sym (take-append-drop k ws)) ∙ append-assoc (take k ws) (drop k ws) (b .0)) (b .1))
+
+  marks-begins : (ws : List Bytes) (u : List ℕ) → Marks t ws u → Begins t ws
+  marks-begins ws u m = held-begins t ws .0 (ending 0 u, record { slots = u; marks = m; at = refl })
+
+  -- children that begin an allowed list with child k among them were not stopped at k
+  not-stopped : (ws : List Bytes) (k j : ℕ) → k ≤ j → (Begins t (take k ws) → ⊥) → Begins t (take j ws) → ⊥
+  not-stopped ws k j l n b = n (subst (Begins t) (take-take k j ws l) (begins-less (take j ws) k b))
+
+  module _ (clear : ¬ Ambiguous t) (ws : List Bytes) where
+    stopped-where : (k j : ℕ) (u v : List ℕ) → Marks t (take (k - 1) ws) u → (Begins t (take k ws) → ⊥) → Marks t (take (j - 1) ws) v → (Begins t (take j ws) → ⊥) → 1 ≤ k → 1 ≤ j → k ≡ j
+    stopped-where k j u v m a n b g h = go (decLt k j) (decLt j k)
+      where
+        go : Dec (k < j) → Dec (j < k) → k ≡ j
+        go (yes l) d = absurd (not-stopped ws k (j - 1) (omega (arith, l)) a (marks-begins (take (j - 1) ws) v n))
+        go (no l) (yes d) = absurd (not-stopped ws j (k - 1) (omega (arith, d)) b (marks-begins (take (k - 1) ws) u m))
+        go (no l) (no d) = omega (arith, l, d)
+
+    pub says-unique : (q r : Matched) (u v : List ℕ) → Says t ws q u → Says t ws r v → (q ≡ r) × (u ≡ v)
+    says-unique (IsAllowed n) (IsAllowed m) u v a b = (ap IsAllowed (a .0 ∙ sym (b .0)), marks-unique t clear ws u v (a .1 .1 .1) (b .1 .1 .1))
+    says-unique (IsAllowed n) (Stopped k s) u v a b = absurd (b .1 .1 .1 (begins-less ws k (marks-begins ws u (a .1 .1 .1))))
+    says-unique (IsAllowed n) (Short m s) u v a b = absurd (b .1 .1 .1 (a .1 .0))
+    says-unique (Stopped k s) (IsAllowed m) u v a b = absurd (a .1 .1 .1 (begins-less ws k (marks-begins ws v (b .1 .1 .1))))
+    says-unique (Stopped k s) (Stopped j r) u v a b =
+        let e : k ≡ j = stopped-where k j u v (a .1 .0) (a .1 .1 .1) (b .1 .0) (b .1 .1 .1) (a .0 .0) (b .0 .0) in
+        let m : u ≡ v = marks-unique t clear (take (k - 1) ws) u v (a .1 .0) (subst (λ i. Marks t (take (i - 1) ws) v) (sym e) (b .1 .0)) in
+        let f : s ≡ r = slot-unique s r (sym (a .1 .1 .0) ∙ ap (ending 0) m ∙ b .1 .1 .0) in
+        (ap₂ Stopped e f, m)
+    says-unique (Stopped k s) (Short m r) u v a b = absurd (a .1 .1 .1 (begins-less ws k (marks-begins ws v (b .1 .0))))
+    says-unique (Short n s) (IsAllowed m) u v a b = absurd (a .1 .1 .1 (b .1 .0))
+    says-unique (Short n s) (Stopped k r) u v a b = absurd (b .1 .1 .1 (begins-less ws k (marks-begins ws u (a .1 .0))))
+    says-unique (Short n s) (Short m r) u v a b =
+        let e : u ≡ v = marks-unique t clear ws u v (a .1 .0) (b .1 .0) in
+        (ap₂ Short (a .0 ∙ sym (b .0)) (slot-unique s r (sym (a .1 .1 .0) ∙ ap (ending 0) e ∙ b .1 .1 .0)), e)
+
+-- ---- matching
+module _ (table children : Bytes) where
+  pub answers-unique : (q r : Matched) (u v : List ℕ) → Answers table children q u → Answers table children r v → (q ≡ r) × (u ≡ v)
+  answers-unique q r u v a b =
+      let e = passed-unique table (b .model) (a .model) (b .passed) (a .passed) in
+      let f = words-unique children (b .names) (a .names) (b .words) (a .words) in
+      says-unique (a .model) (a .passed .clear) (a .names) q r u v (a .says) (subst (λ t. Says t (a .names) r v) e (subst (λ ws. Says (b .model) ws r v) f (b .says)))
+
+  match-refused-unique : (room : ℕ) {f g : Refusal} → MatchRefused table children room f → MatchRefused table children room g → f ≡ g
+  match-refused-unique room (by-model p) (by-model q) = not-passed-unique table p q
+  match-refused-unique room (by-model p) (by-room t q l) = absurd (passed-free table t q p)
+  match-refused-unique room (by-model p) (by-children t q l r) = absurd (passed-free table t q p)
+  match-refused-unique room (by-room t p l) (by-model q) = absurd (passed-free table t p q)
+  match-refused-unique room (by-room t p l) (by-room u q m) = refl
+  match-refused-unique room (by-room t p l) (by-children u q m r) = absurd (omega arith)
+  match-refused-unique room (by-children t p l r) (by-model q) = absurd (passed-free table t p q)
+  match-refused-unique room (by-children t p l r) (by-room u q m) = absurd (omega arith)
+  match-refused-unique room (by-children t p l r) (by-children u q m s) = children-unique children r s
+
+  answers-free : (room : ℕ) {f : Refusal} (r : Matched) (u : List ℕ) → slotRoom ≤ room → Answers table children r u → MatchRefused table children room f → ⊥
+  answers-free room r u l a (by-model p) = passed-free table (a .model) (a .passed) p
+  answers-free room r u l a (by-room t p m) = omega arith
+  answers-free room r u l a (by-children t p m s) = words-not-refused children (a .names) (a .short) (a .words) s
+
+  placed-unique : (before : List ℕ) (q r : Matched) (x y : List ℕ) → Placed table children before q x → Placed table children before r y → (q ≡ r) × (x ≡ y)
+  placed-unique before q r x y a b =
+      let e = answers-unique q r (a .slots) (b .slots) (a .answers) (b .answers) in
+      (e .0, a .written ∙ ap (λ u. u ++ drop (length u) before) (e .1) ∙ sym (b .written))
+
+  refusal-apart : (before : List ℕ) (r : Matched) {f : Refusal} (x : List ℕ) → Placed table children before r x → MatchRefused table children (length before) f → ⊥
+  refusal-apart before r x a m = answers-free (length before) r (a .slots) (a .room) (a .answers) m
+
+  -- any two answers that matching permits are the same, and so are the rooms left
+  pub match-unique : (before : List ℕ) (q r : Matched) (x y : List ℕ) → MatchAnswer table children before q x → MatchAnswer table children before r y → (q ≡ r) × (x ≡ y)
+  match-unique before (Stop f) (Stop g) x y a b = (ap Stop (match-refused-unique (length before) (a .0) (b .0)), a .1 ∙ sym (b .1))
+  match-unique before (Stop f) (IsAllowed n) x y a b = absurd (refusal-apart before (IsAllowed n) y b (a .0))
+  match-unique before (Stop f) (Stopped k s) x y a b = absurd (refusal-apart before (Stopped k s) y b (a .0))
+  match-unique before (Stop f) (Short n s) x y a b = absurd (refusal-apart before (Short n s) y b (a .0))
+  match-unique before (IsAllowed n) (Stop g) x y a b = absurd (refusal-apart before (IsAllowed n) x a (b .0))
+  match-unique before (IsAllowed n) (IsAllowed m) x y a b = placed-unique before (IsAllowed n) (IsAllowed m) x y a b
+  match-unique before (IsAllowed n) (Stopped k s) x y a b = placed-unique before (IsAllowed n) (Stopped k s) x y a b
+  match-unique before (IsAllowed n) (Short m s) x y a b = placed-unique before (IsAllowed n) (Short m s) x y a b
+  match-unique before (Stopped k s) (Stop g) x y a b = absurd (refusal-apart before (Stopped k s) x a (b .0))
+  match-unique before (Stopped k s) (IsAllowed m) x y a b = placed-unique before (Stopped k s) (IsAllowed m) x y a b
+  match-unique before (Stopped k s) (Stopped j r) x y a b = placed-unique before (Stopped k s) (Stopped j r) x y a b
+  match-unique before (Stopped k s) (Short m r) x y a b = placed-unique before (Stopped k s) (Short m r) x y a b
+  match-unique before (Short n s) (Stop g) x y a b = absurd (refusal-apart before (Short n s) x a (b .0))
+  match-unique before (Short n s) (IsAllowed m) x y a b = placed-unique before (Short n s) (IsAllowed m) x y a b
+  match-unique before (Short n s) (Stopped k r) x y a b = placed-unique before (Short n s) (Stopped k r) x y a b
+  match-unique before (Short n s) (Short m r) x y a b = placed-unique before (Short n s) (Short m r) x y a b
+
+-- ---- a single step
+module _ (table : Bytes) (s : ℕ) (a : Bytes) where
+  step-refused-unique : {f g : Refusal} → StepRefused table s f → StepRefused table s g → f ≡ g
+  step-refused-unique (Steps.by-model p) (Steps.by-model q) = not-passed-unique table p q
+  step-refused-unique (Steps.by-model p) (by-slot t q l) = absurd (passed-free table t q p)
+  step-refused-unique (by-slot t p l) (Steps.by-model q) = absurd (passed-free table t p q)
+  step-refused-unique (by-slot t p l) (by-slot u q m) = refl
+
+  step-free : {f : Refusal} (P : Tree Bytes → Type 0) → From table s P → StepRefused table s f → ⊥
+  step-free P h (Steps.by-model p) = passed-free table (h .model) (h .passed) p
+  step-free P h (by-slot t p l) =
+      let e = passed-unique table t (h .model) p (h .passed) in
+      let m : length (leaves (h .model)) < s = subst (λ u. length (leaves u) < s) e l in
+      omega (arith, h .within)
+
+  -- any two answers that a step permits are the same
+  pub step-answer-unique : (q r : Stepped) → StepAnswer table s a q → StepAnswer table s a r → q ≡ r
+  step-answer-unique (Next x) (Next y) h k =
+      let e = passed-unique table (k .model) (h .model) (k .passed) (h .passed) in
+      ap Next (slot-unique x y (step-unique (h .model) (h .passed .clear) s a (x .0) (y .0) (h .says) (subst (λ t. Step t s a (y .0)) e (k .says))))
+  step-answer-unique (Next x) Nowhere h k =
+      let e = passed-unique table (h .model) (k .model) (h .passed) (k .passed) in
+      absurd (k .says (x .0) (subst (λ t. Step t s a (x .0)) e (h .says)))
+  step-answer-unique (Next x) (Refuse f) h k = absurd (step-free (λ t. Step t s a (x .0)) h k)
+  step-answer-unique Nowhere (Next y) h k =
+      let e = passed-unique table (k .model) (h .model) (k .passed) (h .passed) in
+      absurd (h .says (y .0) (subst (λ t. Step t s a (y .0)) e (k .says)))
+  step-answer-unique Nowhere Nowhere h k = refl
+  step-answer-unique Nowhere (Refuse f) h k = absurd (step-free (λ t. (x : ℕ) → Step t s a x → ⊥) h k)
+  step-answer-unique (Refuse f) (Next y) h k = absurd (step-free (λ t. Step t s a (y .0)) k h)
+  step-answer-unique (Refuse f) Nowhere h k = absurd (step-free (λ t. (x : ℕ) → Step t s a x → ⊥) k h)
+  step-answer-unique (Refuse f) (Refuse g) h k = ap Refuse (step-refused-unique h k)

@@ -1,0 +1,76 @@
+-- The name part: which part of what was lent is returned (document 01, "Child lists"). Assumes nothing.
+use mathlib.Core.Bool.{true}
+use mathlib.Core.List.{List, [], _∷_, _++_}
+use mathlib.Core.Path.{_≡_}
+use Prim.Native.Nat.{ℕ, zero, suc, _+_, _*_, _-_, _≤_}
+use lib.ListN.{length, getD, take, drop}
+use lib.Dec.{eqb}
+use denote.Ref.{RefT, ptr, now}
+use Rattle.model.specs.Limits.{childrenLimit}
+use Rattle.model.specs.declared.Slot.{Slot}
+use Rattle.model.specs.declared.Refusal.{Refusal}
+use Rattle.meaning.specs.Trees.{Tree, nodes}
+use Rattle.meaning.specs.Slots.{named}
+use Rattle.names.specs.Bytes.{Bytes}
+use Rattle.children.specs.Words.{Words}
+use Rattle.children.specs.Faults.{Refused}
+use Rattle.table.specs.Encoding.{sameBytes, index, names}
+use Rattle.matching.specs.Passed.{Passed, NotPassed}
+use Rattle.matching.specs.Matches.{Answers}
+use Rattle.matching.specs.declared.Matched.the-variants.{Allowed, Stopped, Short}
+use Rattle.matching.specs.declared.Part.{Part}
+use Rattle.matching.specs.declared.Part.the-variants.{OfChildren, OfTable, AtEnd}
+
+-- r is the part of s from a to e: those bytes, in the same block, at that place
+pub record IsPart (s : RefT (List ℕ)) (a e : ℕ) (r : RefT (List ℕ)) : Type 0 where
+  pub bytes : now r ≡ take (e - a) (drop a (now s))
+  pub block : ptr r .0 ≡ ptr s .0
+  pub offset : ptr r .1 ≡ ptr s .1 + a
+
+-- child k stands in the child text from a to e: from a on the text is child k and those after it
+pub record ChildAt (children : Bytes) (ws : List Bytes) (k a e : ℕ) : Type 0 where
+  pub onward : Words (drop a children) (drop (k - 1) ws)
+  pub here : take (e - a) (drop a children) ≡ getD ws (k - 1) []
+  pub order : a ≤ e
+  pub within : e ≤ length children
+
+-- bytes of the table before the name with number i, and its length byte: the header, the nodes, and the names before it
+abbrev pub sizes : ℕ → List Bytes → ℕ
+sizes zero ns = 0
+sizes (suc i) [] = 0
+sizes (suc i) (n ∷ ns) = 1 + length n + sizes i ns
+
+abbrev pub nameStart : Tree Bytes → ℕ → ℕ
+nameStart t i = 4 + 2 * nodes t + sizes i (names t) + 1
+
+-- the name number of a slot
+abbrev pub numberAt : Tree Bytes → ℕ → ℕ
+numberAt t s = index sameBytes (named t s) (names t)
+
+-- where the name part is, by the answer that matching gives where its room is large enough
+pub data PartWhere (table children : Bytes) : Part → Type 0 where
+  -- "for allowed and every refusal that same empty part": every refusal but 25
+  refused : {f : Refusal} → NotPassed table f → PartWhere table children AtEnd
+  bad-children : {f : Refusal} (t : Tree Bytes) → Passed table t → Refused children f → PartWhere table children AtEnd
+  allowed : {n : ℕ} {u : List ℕ} → Answers table children (Allowed n) u → PartWhere table children AtEnd
+  -- "for stopped the child's name in the child text"
+  stopped :
+      {k : ℕ} {s : Slot} {u : List ℕ} {a e : ℕ} (m : Answers table children (Stopped k s) u) →
+      ChildAt children (m .names) k a e → PartWhere table children (OfChildren a e)
+  -- "for short the held slot's name in the table, or the empty part at the child text's end if the slot is 0"
+  short-at-start : {n : ℕ} {s : Slot} {u : List ℕ} → Answers table children (Short n s) u → s .0 ≡ 0 → PartWhere table children AtEnd
+  short :
+      {n : ℕ} {s : Slot} {u : List ℕ} {a : ℕ} (m : Answers table children (Short n s) u) → 1 ≤ s .0 →
+      a ≡ nameStart (m .model) (numberAt (m .model) (s .0)) → PartWhere table children (OfTable a (a + length (named (m .model) (s .0))))
+
+-- r is that part
+abbrev pub Is : Part → RefT (List ℕ) → RefT (List ℕ) → RefT (List ℕ) → Type 0
+Is (OfChildren a e) table children r = IsPart children a e r
+Is (OfTable a e) table children r = IsPart table a e r
+Is AtEnd table children r = IsPart children (length (now children)) (length (now children)) r
+
+-- what the name part is: its bytes, and where it points
+pub record PartAnswer (table children r : RefT (List ℕ)) : Type 0 where
+  pub place : Part
+  pub says : PartWhere (now table) (now children) place
+  pub is : Is place table children r
