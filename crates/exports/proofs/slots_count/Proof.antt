@@ -1,0 +1,24 @@
+-- `exports::slots_count` meets its contract. Assumes nothing.
+use mathlib.Core.Path.{sym, ap, subst, _∙_}
+use Rattle.exports.specs.Codes.{packed}
+use Rattle.exports.specs.Inner.Fitting.{Fits}
+use Rattle.exports.proofs.Fitting.{counted-fits}
+use borrow.Author.Needs.{needs}
+use Rattle.exports.proofs.slots_count.Statement.{statement}
+use Rattle.exports.proofs.slots_count.Tie as tie
+
+count-requires : tie.Need-count-requires
+count-requires c κs = search needs
+
+counted-fields-requires : tie.Need-counted-fields-requires
+counted-fields-requires c κs = search needs
+
+pack-requires : tie.Need-pack-requires
+pack-requires c κs = subst Fits (sym (c .counted-fields .ensures)) (counted-fits (c .before .before .before .args .table .now) (c .before .count .result) (c .before .count .ensures))
+
+returns : tie.Need-returns
+returns c = record { answer = c .before .before .count .result; holds = c .before .before .count .ensures; number = c .pack .ensures ∙ ap packed (c .before .counted-fields .ensures) }
+
+pub slots-count-spec : {M : Type 1} → statement M
+slots-count-spec =
+    tie.close (tie.spec count-requires counted-fields-requires pack-requires returns)

@@ -1,0 +1,24 @@
+-- `exports::slots_judge` meets its contract. Assumes nothing.
+use mathlib.Core.Path.{sym, ap, subst, _∙_}
+use Rattle.exports.specs.Codes.{packed}
+use Rattle.exports.specs.Inner.Fitting.{Fits}
+use Rattle.exports.proofs.Fitting.{verdict-fits}
+use borrow.Author.Needs.{needs}
+use Rattle.exports.proofs.slots_judge.Statement.{statement}
+use Rattle.exports.proofs.slots_judge.Tie as tie
+
+judge-requires : tie.Need-judge-requires
+judge-requires c κs = search needs
+
+verdict-fields-requires : tie.Need-verdict-fields-requires
+verdict-fields-requires c κs = search needs
+
+pack-requires : tie.Need-pack-requires
+pack-requires c κs = subst Fits (sym (c .verdict-fields .ensures)) (verdict-fits (c .before .before .before .args .table .now) (c .before .judge .result) (c .before .judge .ensures))
+
+returns : tie.Need-returns
+returns c = record { answer = c .before .before .judge .result; holds = c .before .before .judge .ensures; number = c .pack .ensures ∙ ap packed (c .before .verdict-fields .ensures) }
+
+pub slots-judge-spec : {M : Type 1} → statement M
+slots-judge-spec =
+    tie.close (tie.spec judge-requires verdict-fields-requires pack-requires returns)

@@ -1,0 +1,27 @@
+-- `exports::slots_write` meets its contract. Assumes nothing.
+use mathlib.Core.Path.{sym, ap, subst, _∙_}
+use Rattle.exports.specs.Codes.{packed}
+use Rattle.exports.specs.Inner.Fitting.{Fits}
+use Rattle.exports.proofs.Fitting.{written-fits}
+use borrow.Author.Needs.{needs}
+use Rattle.exports.proofs.slots_write.Statement.{statement}
+use Rattle.exports.proofs.slots_write.Tie as tie
+
+write-requires : tie.Need-write-requires
+write-requires c κs = search needs
+
+written-fields-requires : tie.Need-written-fields-requires
+written-fields-requires c κs = search needs
+
+pack-requires : tie.Need-pack-requires
+pack-requires c κs = subst Fits (sym (c .written-fields .ensures)) (written-fits (c .before .before .before .before .before .before .before .args .table .now) (c .before .before .before .before .before .before .before .args .text .now) (c .before .before .before .write .last .1 .0) (c .before .before .before .write .result) (c .before .before .before .write .ensures))
+
+same-length : tie.Need-same-length
+same-length c = search needs
+
+returns : tie.Need-returns
+returns c = record { answer = c .before .before .before .before .write .result; holds = c .before .before .before .before .write .ensures; number = c .pack .ensures ∙ ap packed (c .before .written-fields .ensures) }
+
+pub slots-write-spec : {M : Type 1} → statement M
+slots-write-spec =
+    tie.close (tie.spec write-requires written-fields-requires pack-requires same-length returns)
