@@ -13,8 +13,10 @@ use Rattle.verdict.specs.Verdicts.{JudgeAnswer}
 use Rattle.verdict.proofs.Main.{judge-unique}
 use Rattle.matching.specs.Matches.{MatchAnswer}
 use Rattle.matching.specs.Steps.{StepAnswer}
+use Rattle.matching.specs.Parts.{PartWhere}
 use Rattle.matching.proofs.Unique.{match-unique, step-answer-unique}
-use Rattle.exports.specs.Codes.{packed, readFields, writtenFields, verdictFields, countedFields, matchedFields, steppedFields}
+use Rattle.matching.proofs.PartUnique.{part-unique}
+use Rattle.exports.specs.Codes.{packed, readFields, writtenFields, verdictFields, countedFields, matchedFields, steppedFields, partFields}
 use Rattle.exports.specs.Told.{Told}
 use Rattle.exports.specs.declared.Fields.{Fields}
 use Rattle.exports.specs.Inner.Fitting.{Fits}
@@ -60,3 +62,8 @@ pub slots-step-unique :
     (table : Bytes) (s : ℕ) (name : Bytes) (n m : ℕ) → Told (StepAnswer table s name) steppedFields n →
     Told (StepAnswer table s name) steppedFields m → n ≡ m
 slots-step-unique table s name n m a b = same-number a b (step-answer-unique table s name (a .answer) (b .answer) (a .holds) (b .holds))
+
+pub slots-part-unique :
+    (table children : Bytes) (n m : ℕ) → Told (PartWhere table children) partFields n →
+    Told (PartWhere table children) partFields m → n ≡ m
+slots-part-unique table children n m a b = same-number a b (part-unique table children (a .answer) (b .answer) (a .holds) (b .holds))
