@@ -1,0 +1,2 @@
+-- What a reading leaves in the room.
+pub mod Room
