@@ -1,4 +1,4 @@
--- The fields of each answer that a function permits fit their bits. Assumes nothing.
+-- The figures of each answer that a function permits fit their bits. Assumes nothing.
 use mathlib.Core.List.{List, [], _∷_}
 use mathlib.Core.Path.{_≡_, refl, sym, ap, subst}
 use Prim.Native.Nat.{ℕ, _+_, _-_, _^_, _≤_, _<_}
@@ -7,7 +7,7 @@ use lib.ListN.{length}
 use denote.Enum.Declared.{tagOf}
 use types.Run.{OneOf, miss}
 use Rattle.model.specs.Limits.{textLimit, childrenLimit, slotLimit, nodeLimit, tableRoom}
-use Rattle.model.specs.Refusals.{numberOf, placeOf, valuesOf}
+use Rattle.model.specs.Refusals.{numberOf, placeOf, valuesOf, figuresOf}
 use Rattle.model.specs.declared.Refusal.{Refusal}
 use Rattle.model.specs.declared.Refusal.the-variants.{TextTooLong, TableRoom, UnknownByte, WrongByte, NameTooLong, TooDeep, TooManySlots, TooManyNodes, TableTooShort, BadCounts, BadNodes, BadNames, BadOrder, TooLarge, WrittenTooLong, TextRoom, ChildrenTooLong, ChildByte, ChildTooLong, Ambiguous as Clashing, SlotRoom, NoSuchSlot}
 use Rattle.model.proofs.Refusal.{the-type}
@@ -26,20 +26,20 @@ use Rattle.table.specs.Refusals.{First, Fault, fault-11, fault-12, fault-13, fa
 use Rattle.table.proofs.Lawful.{names-few}
 use Rattle.reader.proofs.Lawful.{read-lawful}
 use Rattle.packing.proofs.Longest.{table-length}
-use Rattle.reading.specs.Reads.{Told, fault-1, fault-2, of-text, ReadAnswer}
+use Rattle.reading.specs.Reads.{Told, fault-1, fault-2, of-text, ReadAnswer, outcomeFigures}
 use Rattle.reading.specs.declared.Outcome.{Outcome}
 use Rattle.reading.specs.declared.Outcome.the-variants.{Table, Refused as Unread}
-use Rattle.writer.specs.Answers.{WriteFault, of-table, fault-18, WriteAnswer, CountAnswer}
+use Rattle.writer.specs.Answers.{WriteFault, of-table, fault-18, WriteAnswer, CountAnswer, writtenFigures}
 use Rattle.writer.specs.declared.Written.{Written}
 use Rattle.writer.specs.declared.Written.the-variants.{Text, Refused as Unwritten}
 use Rattle.writer.specs.declared.Counted.{Counted}
 use Rattle.writer.specs.declared.Counted.the-variants.{Counts, Refused as Uncounted}
-use Rattle.verdict.specs.Verdicts.{JudgeAnswer}
+use Rattle.verdict.specs.Verdicts.{JudgeAnswer, verdictFigures}
 use Rattle.verdict.specs.declared.Verdict.{Verdict}
 use Rattle.verdict.specs.declared.Verdict.the-variants.{Deterministic, Ambiguous, Refused as Unjudged}
 use Rattle.matching.specs.Passed.{NotPassed, refused, ambiguous}
 use Rattle.matching.specs.Matches.{Answers, MatchRefused, by-model, by-room, by-children, Placed, MatchAnswer}
-use Rattle.matching.specs.Steps.{StepRefused, by-slot, From, StepAnswer}
+use Rattle.matching.specs.Steps.{StepRefused, by-slot, From, StepAnswer, steppedFigures}
 use Rattle.matching.specs.Steps
 use Rattle.matching.specs.Parts.{PartWhere, stopped, short, short-at-start, allowed, bad-children}
 use Rattle.matching.specs.Parts
@@ -50,16 +50,18 @@ use Rattle.matching.specs.declared.Stepped.the-variants.{Next as Goes, Nowhere,
 use Rattle.matching.specs.declared.Part.{Part}
 use Rattle.matching.specs.declared.Part.the-variants.{OfChildren, OfTable, AtEnd}
 use Rattle.matching.proofs.Parting.{part-children, part-table}
-use Rattle.exports.specs.Codes.{refusalFields, readFields, writtenFields, verdictFields, countedFields, matchedFields, steppedFields, partFields}
-use Rattle.exports.specs.declared.Fields.{Fields}
+use Rattle.writer.specs.Answers.{countedFigures}
+use Rattle.matching.specs.Matches.{matchedFigures}
+use Rattle.exports.specs.Codes.{partFigures}
+use Rattle.model.specs.declared.Figures.{Figures}
 use Rattle.exports.specs.Inner.Fitting.{Fits, Forward}
 
--- fields that are small
-fits : (sort a b c : ℕ) → sort < 256 → a ≤ childrenLimit → b ≤ childrenLimit → c ≤ slotLimit → Fits record { sort = sort; a = a; b = b; c = c }
-fits sort a b c h i j k = record { sort-fits = omega arith; a-fits = omega arith; b-fits = omega arith; c-fits = omega arith }
+-- figures that are small
+fits : (number a b c : ℕ) → number < 256 → a ≤ childrenLimit → b ≤ childrenLimit → c ≤ slotLimit → Fits record { number = number; a = a; b = b; c = c }
+fits number a b c h i j k = record { number-fits = omega arith; a-fits = omega arith; b-fits = omega arith; c-fits = omega arith }
 
 -- a refusal with a number alone
-numbered : (n : ℕ) → n < 256 → Fits record { sort = n; a = 0; b = 0; c = 0 }
+numbered : (n : ℕ) → n < 256 → Fits record { number = n; a = 0; b = 0; c = 0 }
 numbered n h = fits n 0 0 0 h (omega arith) (omega arith) (omega arith)
 
 -- ---- slots
@@ -78,7 +80,7 @@ module _ (t : Tree Bytes) (few : length (leaves t) ≤ slotLimit) where
   held-few : (w : List Bytes) (u : List ℕ) (s : ℕ) → Marks t w u → ending 0 u ≡ s → s ≤ slotLimit
   held-few w u s m e = run-few (run-held t w s .1 record { slots = u; marks = m; at = e }) (omega arith)
 
-  clash-fits : (p x y : ℕ) → FirstClash t p x y → Fits record { sort = 24; a = p; b = x; c = y }
+  clash-fits : (p x y : ℕ) → FirstClash t p x y → Fits record { number = 24; a = p; b = x; c = y }
   clash-fits p x y f =
       let c = clash-correct t p x y .0 (f .clash) in
       let a = next-few p x (c .0) in
@@ -86,7 +88,7 @@ module _ (t : Tree Bytes) (few : length (leaves t) ≤ slotLimit) where
       fits 24 p x y (omega arith) (omega arith) (omega arith) (omega arith)
 
 -- ---- refusals
-fault-fits : {s : Bytes} {f : Refusal} → Fault s f → Fits (refusalFields f)
+fault-fits : {s : Bytes} {f : Refusal} → Fault s f → Fits (figuresOf f)
 fault-fits (fault-11 h) = numbered 11 (omega arith)
 fault-fits (fault-12 h) = numbered 12 (omega arith)
 fault-fits (fault-13 h) = numbered 13 (omega arith)
@@ -95,24 +97,24 @@ fault-fits (fault-15 h) = numbered 15 (omega arith)
 fault-fits (fault-16 h) = numbered 16 (omega arith)
 fault-fits (fault-17 h) = numbered 17 (omega arith)
 
-write-fault-fits : {s room : Bytes} {f : Refusal} → WriteFault s room f → Fits (refusalFields f)
+write-fault-fits : {s room : Bytes} {f : Refusal} → WriteFault s room f → Fits (figuresOf f)
 write-fault-fits (of-table h) = fault-fits h
 write-fault-fits (fault-18 h) = numbered 18 (omega arith)
 
-child-fault-fits : {text : Bytes} {f : Refusal} → length text ≤ childrenLimit → Children.Fault text f → Fits (refusalFields f)
+child-fault-fits : {text : Bytes} {f : Refusal} → length text ≤ childrenLimit → Children.Fault text f → Fits (figuresOf f)
 child-fault-fits h (Children.byte q l s r) = fits 22 q 0 0 (omega arith) (omega arith) (omega arith) (omega arith)
 child-fault-fits h (Children.long q l s r) = fits 23 q 0 0 (omega arith) (omega arith) (omega arith) (omega arith)
 
-children-fit : {text : Bytes} {f : Refusal} → Refused text f → Fits (refusalFields f)
+children-fit : {text : Bytes} {f : Refusal} → Refused text f → Fits (figuresOf f)
 children-fit (too-long h) = fits 21 childrenLimit 0 0 (omega arith) (omega arith) (omega arith) (omega arith)
 children-fit (first h f) = child-fault-fits h (f .fault)
 
-not-passed-fits : {s : Bytes} {f : Refusal} → NotPassed s f → Fits (refusalFields f)
+not-passed-fits : {s : Bytes} {f : Refusal} → NotPassed s f → Fits (figuresOf f)
 not-passed-fits (refused r) = fault-fits (r .met)
 not-passed-fits (ambiguous {p = p} {x = x} {y = y} t l c) = clash-fits t (l .lawful .slots) (p .0) (x .0) (y .0) c
 
 -- ---- the answers of each function
-text-fault-fits : {text : Bytes} {f : Refusal} → length text ≤ textLimit → Faults.Fault text f → Fits (refusalFields f)
+text-fault-fits : {text : Bytes} {f : Refusal} → length text ≤ textLimit → Faults.Fault text f → Fits (figuresOf f)
 text-fault-fits h (Faults.unknown q l u) = fits 3 q 0 0 (omega arith) (omega arith) (omega arith) (omega arith)
 text-fault-fits h (Faults.wrong q l b n) = fits 4 q 0 0 (omega arith) (omega arith) (omega arith) (omega arith)
 text-fault-fits {text} h (Faults.ends b n) = fits 4 (length text) 0 0 (omega arith) (omega arith) (omega arith) (omega arith)
@@ -121,36 +123,36 @@ text-fault-fits h (Faults.deep q l b n) = fits 6 q 0 0 (omega arith) (omega arit
 text-fault-fits h (Faults.slots q l b n) = fits 7 q 0 0 (omega arith) (omega arith) (omega arith) (omega arith)
 text-fault-fits h (Faults.nodes q l b n) = fits 8 q 0 0 (omega arith) (omega arith) (omega arith) (omega arith)
 
-read-refused-fits : {text room : Bytes} {f : Refusal} → Told text room f → Fits (refusalFields f)
+read-refused-fits : {text room : Bytes} {f : Refusal} → Told text room f → Fits (figuresOf f)
 read-refused-fits (fault-1 h) = fits 1 textLimit 0 0 (omega arith) (omega arith) (omega arith) (omega arith)
 read-refused-fits (fault-2 h l) = numbered 2 (omega arith)
 read-refused-fits (of-text a r) = text-fault-fits (a .short) (r .fault)
 
-pub read-fits : (text room room′ : Bytes) (r : Outcome) → ReadAnswer text room r room′ → Fits (readFields r)
+pub read-fits : (text room room′ : Bytes) (r : Outcome) → ReadAnswer text room r room′ → Fits (outcomeFigures r)
 read-fits text room room′ (Table n) h =
     let l = table-length (h .0) (read-lawful (h .2 .short) (h .1)) in
     let e = h .3 in
     fits 0 n 0 0 (omega arith) (omega arith) (omega arith) (omega arith)
 read-fits text room room′ (Unread f) h = read-refused-fits (h .0)
 
-pub written-fits : (s room room′ : Bytes) (r : Written) → WriteAnswer s room r room′ → Fits (writtenFields r)
+pub written-fits : (s room room′ : Bytes) (r : Written) → WriteAnswer s room r room′ → Fits (writtenFigures r)
 written-fits s room room′ (Text n) h = let l = h .1 .lawful .text in let e = h .3 in fits 0 n 0 0 (omega arith) (omega arith) (omega arith) (omega arith)
 written-fits s room room′ (Unwritten f) h = write-fault-fits (h .0 .met)
 
-pub verdict-fits : (s : Bytes) (r : Verdict) → JudgeAnswer s r → Fits (verdictFields r)
+pub verdict-fits : (s : Bytes) (r : Verdict) → JudgeAnswer s r → Fits (verdictFigures r)
 verdict-fits s Deterministic h = numbered 0 (omega arith)
 verdict-fits s (Ambiguous p x y) h = clash-fits (h .0) (h .1 .lawful .slots) (p .0) (x .0) (y .0) (h .2)
 verdict-fits s (Unjudged f) h = fault-fits (h .met)
 
-pub counted-fits : (s : Bytes) (r : Counted) → CountAnswer s r → Fits (countedFields r)
+pub counted-fits : (s : Bytes) (r : Counted) → CountAnswer s r → Fits (countedFigures r)
 counted-fits s (Counts m) h =
     let l = h .1 .lawful .small in
     let k = h .1 .lawful .slots in
     let n = names-few (h .0) (h .1 .lawful) in
-    subst (λ m. Fits (countedFields (Counts m))) (sym (h .2)) (fits 0 _ _ _ (omega arith) (omega arith) (omega arith) (omega arith))
+    subst Fits (sym (h .2)) (fits 0 _ _ _ (omega arith) (omega arith) (omega arith) (omega arith))
 counted-fits s (Uncounted f) h = fault-fits (h .met)
 
-match-refused-fits : {s text : Bytes} {room : ℕ} {f : Refusal} → MatchRefused s text room f → Fits (refusalFields f)
+match-refused-fits : {s text : Bytes} {room : ℕ} {f : Refusal} → MatchRefused s text room f → Fits (figuresOf f)
 match-refused-fits (by-model h) = not-passed-fits h
 match-refused-fits (by-room t p h) = numbered 25 (omega arith)
 match-refused-fits (by-children t p h r) = children-fit r
@@ -162,7 +164,7 @@ module _ {s text : Bytes} {r : Matched} {u : List ℕ} (m : Answers s text r u) 
   names-few-enough : length (m .names) ≤ childrenLimit
   names-few-enough = let a = words-few (m .words) in let b = m .short in omega arith
 
-pub matched-fits : (table text before after : Bytes) (r : Matched) → MatchAnswer table text before r after → Fits (matchedFields r)
+pub matched-fits : (table text before after : Bytes) (r : Matched) → MatchAnswer table text before r after → Fits (matchedFigures r)
 matched-fits table text before after (Allowed n) h =
     let m = h .answers in
     let l = names-few-enough m in
@@ -182,11 +184,11 @@ matched-fits table text before after (Short n s) h =
     fits 2 n (s .0) 0 (omega arith) (omega arith) (omega arith) (omega arith)
 matched-fits table text before after (Unmatched f) h = match-refused-fits (h .0)
 
-step-refused-fits : {s : Bytes} {k : ℕ} {f : Refusal} → StepRefused s k f → Fits (refusalFields f)
+step-refused-fits : {s : Bytes} {k : ℕ} {f : Refusal} → StepRefused s k f → Fits (figuresOf f)
 step-refused-fits (Steps.by-model h) = not-passed-fits h
 step-refused-fits (by-slot t p h) = numbered 26 (omega arith)
 
-pub stepped-fits : (s : Bytes) (k : ℕ) (name : Bytes) (r : Stepped) → StepAnswer s k name r → Fits (steppedFields r)
+pub stepped-fits : (s : Bytes) (k : ℕ) (name : Bytes) (r : Stepped) → StepAnswer s k name r → Fits (steppedFigures r)
 stepped-fits s k name (Goes x) h =
     let f = next-few (h .model) (h .passed .loads .lawful .slots) _ (x .0) (h .says .next) in
     fits 0 (x .0) 0 0 (omega arith) (omega arith) (omega arith) (omega arith)
@@ -198,7 +200,7 @@ part-forward s text (OfChildren a e) h = part-children s text (OfChildren a e) a
 part-forward s text (OfTable a e) h = part-table s text (OfTable a e) a e h refl .0
 part-forward s text AtEnd h = tt
 
-part-few : {s text : Bytes} {r : Part} → PartWhere s text r → Fits (partFields r)
+part-few : {s text : Bytes} {r : Part} → PartWhere s text r → Fits (partFigures r)
 part-few (Parts.refused h) = numbered 2 (omega arith)
 part-few (bad-children t p h) = numbered 2 (omega arith)
 part-few (allowed h) = numbered 2 (omega arith)
@@ -215,7 +217,7 @@ part-few {s} {text} (short m z e) =
     let g = ap length (l .table) in
     fits 1 _ _ 0 (omega arith) (omega arith) (omega arith) (omega arith)
 
-pub part-fits : (s text : Bytes) (r : Part) → PartWhere s text r → Fits (partFields r)
+pub part-fits : (s text : Bytes) (r : Part) → PartWhere s text r → Fits (partFigures r)
 part-fits s text r h = part-few h
 
 -- ---- a refusal but 24 is told by its number and its place
@@ -247,5 +249,5 @@ plain (Clashing p x y) k = absurd (miss others 19 tt k)
 plain SlotRoom k = refl
 plain NoSuchSlot k = refl
 
-pub plain-fields : (f : Refusal) (n q : ℕ) → OneOf others (tagOf the-type f) → n ≡ numberOf f → q ≡ placeOf f → record { sort = n; a = q; b = 0; c = 0 } ≡ refusalFields f
-plain-fields f n q k e h = rw (e, h, plain f k)
+pub plain-figures : (f : Refusal) (n q : ℕ) → OneOf others (tagOf the-type f) → n ≡ numberOf f → q ≡ placeOf f → record { number = n; a = q; b = 0; c = 0 } ≡ figuresOf f
+plain-figures f n q k e h = rw (e, h, plain f k)

@@ -1,10 +1,12 @@
 -- What matching a child list answers (document 01, "Child lists" and "Order"; demands 1 to 3). Assumes nothing.
-use mathlib.Core.List.{List, [], _∷_, _++_}
+use mathlib.Core.List.{List, _++_}
 use mathlib.Core.Path.{_≡_}
 use Prim.Native.Nat.{ℕ, _-_, _≤_, _<_}
 use lib.ListN.{length, take, drop}
 use Rattle.model.specs.Limits.{childrenLimit, slotRoom}
-use Rattle.model.specs.Refusals.{numberOf, placeOf}
+use Rattle.model.specs.Figures.{figures}
+use Rattle.model.specs.Refusals.{figuresOf}
+use Rattle.model.specs.declared.Figures.{Figures}
 use Rattle.model.specs.declared.Refusal.{Refusal}
 use Rattle.model.specs.declared.Refusal.the-variants.{SlotRoom}
 use Rattle.meaning.specs.Trees.{Tree}
@@ -19,21 +21,33 @@ use Rattle.matching.specs.Passed.{Passed, NotPassed}
 use Rattle.matching.specs.declared.Matched.{Matched}
 use Rattle.matching.specs.declared.Matched.the-variants.{Allowed as IsAllowed, Stopped, Short, Refused as Stop}
 
--- the answer's values: the number of children, or the child where it stopped, and the slot held; a refusal's number and place
-abbrev pub valuesOf : Matched → List ℕ
-valuesOf (IsAllowed n) = n ∷ []
-valuesOf (Stopped k s) = k ∷ s .0 ∷ []
-valuesOf (Short n s) = n ∷ s .0 ∷ []
-valuesOf (Stop f) = numberOf f ∷ placeOf f ∷ []
+-- in figures: 0 allowed and the number of children; 1 stopped and the child, 2 short and the number of children, both with
+-- the slot held; or the refusal
+abbrev pub matchedFigures : Matched → Figures
+matchedFigures (IsAllowed n) = figures 0 n 0 0
+matchedFigures (Stopped k s) = figures 1 k (s .0) 0
+matchedFigures (Short n s) = figures 2 n (s .0) 0
+matchedFigures (Stop f) = figuresOf f
 
--- the answer on a model for these children, of which u are the slots of those that are placed
+-- allowed, with the number n of children: they are an allowed list, and u is a numbered one of theirs
+abbrev pub AllowedWith : Tree Bytes → List Bytes → ℕ → List ℕ → Type 0
+AllowedWith t ws n u = (n ≡ length ws) × (Allowed t ws × (Numbered t u × Marks t ws u))
+
+-- stopped at child k, with the slot s held before it: the children before k are placed, by the slots u, and with k they
+-- begin no allowed list
+abbrev pub StoppedWith : Tree Bytes → List Bytes → ℕ → ℕ → List ℕ → Type 0
+StoppedWith t ws k s u =
+    ((1 ≤ k) × (k ≤ length ws)) × (Marks t (take (k - 1) ws) u × ((ending 0 u ≡ s) × ¬ Begins t (take k ws)))
+
+-- short: all n children placed, by the slots u, of which s is held, but the list is no allowed one
+abbrev pub ShortWith : Tree Bytes → List Bytes → ℕ → ℕ → List ℕ → Type 0
+ShortWith t ws n s u = (n ≡ length ws) × (Marks t ws u × ((ending 0 u ≡ s) × ¬ Allowed t ws))
+
+-- the answer on a model for these children, of which u are the slots of those that are placed; no model is refused
 abbrev pub Says : Tree Bytes → List Bytes → Matched → List ℕ → Type 0
--- allowed, with the number of children: they are an allowed list, and u is a numbered one of theirs
-Says t ws (IsAllowed n) u = (n ≡ length ws) × (Allowed t ws × (Numbered t u × Marks t ws u))
--- stopped at child k, with the slot held before it: the children before k are placed, and with k they begin no allowed list
-Says t ws (Stopped k s) u = ((1 ≤ k) × (k ≤ length ws)) × (Marks t (take (k - 1) ws) u × ((ending 0 u ≡ s .0) × ¬ Begins t (take k ws)))
--- short: all children placed, but the list is no allowed one; with their number and the slot held
-Says t ws (Short n s) u = (n ≡ length ws) × (Marks t ws u × ((ending 0 u ≡ s .0) × ¬ Allowed t ws))
+Says t ws (IsAllowed n) u = AllowedWith t ws (matchedFigures (IsAllowed n) .a) u
+Says t ws (Stopped k s) u = StoppedWith t ws (matchedFigures (Stopped k s) .a) (matchedFigures (Stopped k s) .b) u
+Says t ws (Short n s) u = ShortWith t ws (matchedFigures (Short n s) .a) (matchedFigures (Short n s) .b) u
 Says t ws (Stop f) u = ⊥
 
 -- the whole child text is names, and this is the answer on them

@@ -2,7 +2,9 @@
 use mathlib.Core.List.{List, [], _∷_}
 use Prim.Native.Nat.{ℕ, _≤_, _<_}
 use lib.ListN.{length}
-use Rattle.model.specs.Refusals.{numberOf, placeOf}
+use Rattle.model.specs.Figures.{figures}
+use Rattle.model.specs.Refusals.{figuresOf}
+use Rattle.model.specs.declared.Figures.{Figures}
 use Rattle.model.specs.declared.Slot.{Slot}
 use Rattle.model.specs.declared.Refusal.{Refusal}
 use Rattle.model.specs.declared.Refusal.the-variants.{NoSuchSlot}
@@ -13,11 +15,11 @@ use Rattle.matching.specs.Passed.{Passed, NotPassed}
 use Rattle.matching.specs.declared.Stepped.{Stepped}
 use Rattle.matching.specs.declared.Stepped.the-variants.{Next, Nowhere, Refused as Stop}
 
--- the answer's values: the next slot; a refusal's number and place
-abbrev pub valuesOf : Stepped → List ℕ
-valuesOf (Next x) = x .0 ∷ []
-valuesOf Nowhere = []
-valuesOf (Stop f) = numberOf f ∷ placeOf f ∷ []
+-- in figures: 0 and the next slot; 1 for none; or the refusal
+abbrev pub steppedFigures : Stepped → Figures
+steppedFigures (Next x) = figures 0 (x .0) 0 0
+steppedFigures Nowhere = figures 1 0 0 0
+steppedFigures (Stop f) = figuresOf f
 
 -- the refusals, in order: 11 to 17 and 24; 26, a step from a slot above the model's last
 pub data StepRefused (table : Bytes) (s : ℕ) : Refusal → Type 0 where
@@ -33,7 +35,7 @@ pub record From (table : Bytes) (s : ℕ) (P : Tree Bytes → Type 0) : Type 0 w
 
 -- what a single step from the slot s with these bytes for a name answers: the next slot, or none
 abbrev pub StepAnswer : Bytes → ℕ → Bytes → Stepped → Type 0
-StepAnswer table s a (Next x) = From table s (λ t. Step t s a (x .0))
+StepAnswer table s a (Next x) = From table s (λ t. Step t s a (steppedFigures (Next x) .a))
 StepAnswer table s a Nowhere = From table s (λ t. (x : ℕ) → Step t s a x → ⊥)
 StepAnswer table s a (Stop f) = StepRefused table s f
 

@@ -1,7 +1,10 @@
 -- What each refusal says: the number, the place and the values of document 01, "Numbers given on refusal". Assumes nothing.
 use mathlib.Core.List.{List, [], _∷_}
 use Prim.Native.Nat.{ℕ}
+use lib.ListN.{getD}
 use Rattle.model.specs.Limits.{textLimit, childrenLimit}
+use Rattle.model.specs.Figures.{figures}
+use Rattle.model.specs.declared.Figures.{Figures}
 use Rattle.model.specs.declared.Refusal.{Refusal}
 use Rattle.model.specs.declared.Refusal.the-variants.{TextTooLong, TableRoom, UnknownByte, WrongByte, NameTooLong, TooDeep, TooManySlots, TooManyNodes, TableTooShort, BadCounts, BadNodes, BadNames, BadOrder, TooLarge, WrittenTooLong, TextRoom, ChildrenTooLong, ChildByte, ChildTooLong, Ambiguous, SlotRoom, NoSuchSlot}
 
@@ -77,3 +80,12 @@ valuesOf (ChildTooLong q) = []
 valuesOf (Ambiguous p x y) = p .0 ∷ x .0 ∷ y .0 ∷ []
 valuesOf SlotRoom = []
 valuesOf NoSuchSlot = []
+
+-- a number and a place; or values in the place's stead, where there are some
+abbrev told : ℕ → ℕ → List ℕ → Figures
+told n q [] = figures n q 0 0
+told n q (p ∷ l) = figures n p (getD l 0 0) (getD l 1 0)
+
+-- a refusal in figures: its number and its place; with 24 p, x, y
+abbrev pub figuresOf : Refusal → Figures
+figuresOf f = told (numberOf f) (placeOf f) (valuesOf f)

@@ -62,6 +62,14 @@ impl Model {
     pub const SLOT_ROOM: usize = 8192;
 }
 
+// An answer in figures: its number and its values, at most three; 0 stands for a value that it does not have.
+pub struct Figures {
+    pub number: usize,
+    pub a: usize,
+    pub b: usize,
+    pub c: usize,
+}
+
 // Why something was refused. The place is held where it varies.
 pub enum Refusal {
     TextTooLong,

@@ -1,7 +1,7 @@
 -- The verdict on a model: deterministic, or ambiguous with the clash that is shown (document 01, "Meaning"). Assumes nothing.
-use mathlib.Core.List.{List, [], _∷_}
-use Prim.Native.Nat.{ℕ}
-use Rattle.model.specs.Refusals.{numberOf, placeOf}
+use Rattle.model.specs.Figures.{figures}
+use Rattle.model.specs.Refusals.{figuresOf}
+use Rattle.model.specs.declared.Figures.{Figures}
 use Rattle.meaning.specs.Trees.{Tree}
 use Rattle.meaning.specs.Clashes.{Ambiguous, FirstClash}
 use Rattle.names.specs.Bytes.{Bytes}
@@ -10,16 +10,20 @@ use Rattle.table.specs.Refusals.{Refused}
 use Rattle.verdict.specs.declared.Verdict.{Verdict}
 use Rattle.verdict.specs.declared.Verdict.the-variants.{Deterministic, Ambiguous as Clashing, Refused as Stop}
 
--- the verdict's values: p, x, y of the clash; a refusal's number and place
-abbrev pub valuesOf : Verdict → List ℕ
-valuesOf Deterministic = []
-valuesOf (Clashing p x y) = p .0 ∷ x .0 ∷ y .0 ∷ []
-valuesOf (Stop f) = numberOf f ∷ placeOf f ∷ []
+-- in figures: 0 where deterministic; 24 and p, x, y where ambiguous; or the refusal
+abbrev pub verdictFigures : Verdict → Figures
+verdictFigures Deterministic = figures 0 0 0 0
+verdictFigures (Clashing p x y) = figures 24 (p .0) (x .0) (y .0)
+verdictFigures (Stop f) = figuresOf f
+
+-- these values show the first clash of a model: p, x, y
+abbrev pub Shows : {A : Type 0} → Tree A → Figures → Type 0
+Shows t f = FirstClash t (f .a) (f .b) (f .c)
 
 -- the verdict on a model; no model is refused
 abbrev pub VerdictOn : {A : Type 0} → Tree A → Verdict → Type 0
 VerdictOn t Deterministic = ¬ Ambiguous t
-VerdictOn t (Clashing p x y) = FirstClash t (p .0) (x .0) (y .0)
+VerdictOn t (Clashing p x y) = Shows t (verdictFigures (Clashing p x y))
 VerdictOn t (Stop f) = ⊥
 
 -- what judging a table answers: the refusal that it meets, else the verdict on its model

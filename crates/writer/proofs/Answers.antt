@@ -6,13 +6,16 @@ use Prim.Native.Nat.{ℕ, _≤_}
 use native.Mathlib.Omega.{arith}
 use lib.ListN.{length, drop}
 use Rattle.model.specs.Limits.{textRoom}
+use Rattle.model.specs.Figures.{figures}
 use Rattle.model.specs.Refusals.{placeOf, valuesOf}
+use Rattle.model.specs.declared.Figures.{Figures}
+use Rattle.model.specs.declared.Model.{Model}
 use Rattle.model.specs.declared.Refusal.{Refusal}
-use Rattle.meaning.specs.Trees.{Tree}
+use Rattle.meaning.specs.Trees.{Tree, nodes, leaves}
 use Rattle.names.specs.Bytes.{Bytes}
 use Rattle.table.specs.Encoding.{names, numbers}
 use Rattle.table.specs.Texts.{written}
-use Rattle.table.specs.Models.{Loads, counts}
+use Rattle.table.specs.Models.{Loads}
 use Rattle.table.proofs.Lawful.{loads-sound, sound-free}
 use Rattle.table.proofs.Refusing.{fault-place, fault-values, first-unique}
 use Rattle.table.proofs.Main.{loads-unique, refused-unique, loads-free}
@@ -22,9 +25,17 @@ use Rattle.writer.specs.declared.Counted.the-variants.{Counts, Refused}
 use Rattle.writer.specs.declared.Written.{Written}
 use Rattle.writer.specs.declared.Written.the-variants.{Text, Refused as Unwritten}
 
+-- the counts that figures tell
+abbrev told : Figures → Model
+told f = record { nodes = f .a; slots = f .b; names = f .c }
+
+abbrev figuresOn : Tree Bytes → Figures
+figuresOn t = figures 0 (nodes t) (length (leaves t)) (length (names t))
+
 pub count-answer-unique : (s : Bytes) (r r′ : Counted) → CountAnswer s r → CountAnswer s r′ → r ≡ r′
 count-answer-unique s (Counts c) (Counts c′) a b =
-    ap Counts (a .2 ∙ ap counts (loads-unique s (a .0) (b .0) (a .1) (b .1)) ∙ sym (b .2))
+    let e = loads-unique s (a .0) (b .0) (a .1) (b .1) in
+    ap (λ f. Counts (told f)) (a .2 ∙ ap figuresOn e ∙ sym (b .2))
 count-answer-unique s (Counts c) (Refused f) a b = absurd (loads-free s (a .0) (a .1) f b)
 count-answer-unique s (Refused f) (Counts c) a b = absurd (loads-free s (b .0) (b .1) f a)
 count-answer-unique s (Refused f) (Refused g) a b = ap Refused (refused-unique s f g a b)

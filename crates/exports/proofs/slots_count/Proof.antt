@@ -10,15 +10,15 @@ use Rattle.exports.proofs.slots_count.Tie as tie
 count-requires : tie.Need-count-requires
 count-requires c κs = search needs
 
-counted-fields-requires : tie.Need-counted-fields-requires
-counted-fields-requires c κs = search needs
+counted-figures-requires : tie.Need-counted-figures-requires
+counted-figures-requires c κs = search needs
 
 pack-requires : tie.Need-pack-requires
-pack-requires c κs = subst Fits (sym (c .counted-fields .ensures)) (counted-fits (c .before .before .before .args .table .now) (c .before .count .result) (c .before .count .ensures))
+pack-requires c κs = subst Fits (sym (c .counted-figures .ensures)) (counted-fits (c .before .before .before .args .table .now) (c .before .count .result) (c .before .count .ensures))
 
 returns : tie.Need-returns
-returns c = record { answer = c .before .before .count .result; holds = c .before .before .count .ensures; number = c .pack .ensures ∙ ap packed (c .before .counted-fields .ensures) }
+returns c = record { answer = c .before .before .count .result; holds = c .before .before .count .ensures; number = c .pack .ensures ∙ ap packed (c .before .counted-figures .ensures) }
 
 pub slots-count-spec : {M : Type 1} → statement M
 slots-count-spec =
-    tie.close (tie.spec count-requires counted-fields-requires pack-requires returns)
+    tie.close (tie.spec count-requires counted-figures-requires pack-requires returns)

@@ -10,15 +10,15 @@ use Rattle.exports.proofs.slots_judge.Tie as tie
 judge-requires : tie.Need-judge-requires
 judge-requires c κs = search needs
 
-verdict-fields-requires : tie.Need-verdict-fields-requires
-verdict-fields-requires c κs = search needs
+verdict-figures-requires : tie.Need-verdict-figures-requires
+verdict-figures-requires c κs = search needs
 
 pack-requires : tie.Need-pack-requires
-pack-requires c κs = subst Fits (sym (c .verdict-fields .ensures)) (verdict-fits (c .before .before .before .args .table .now) (c .before .judge .result) (c .before .judge .ensures))
+pack-requires c κs = subst Fits (sym (c .verdict-figures .ensures)) (verdict-fits (c .before .before .before .args .table .now) (c .before .judge .result) (c .before .judge .ensures))
 
 returns : tie.Need-returns
-returns c = record { answer = c .before .before .judge .result; holds = c .before .before .judge .ensures; number = c .pack .ensures ∙ ap packed (c .before .verdict-fields .ensures) }
+returns c = record { answer = c .before .before .judge .result; holds = c .before .before .judge .ensures; number = c .pack .ensures ∙ ap packed (c .before .verdict-figures .ensures) }
 
 pub slots-judge-spec : {M : Type 1} → statement M
 slots-judge-spec =
-    tie.close (tie.spec judge-requires verdict-fields-requires pack-requires returns)
+    tie.close (tie.spec judge-requires verdict-figures-requires pack-requires returns)

@@ -10,14 +10,14 @@ use Rattle.exports.proofs.slots_step.Tie as tie
 step-requires : tie.Need-step-requires
 step-requires c κs = search needs
 
-stepped-fields-requires : tie.Need-stepped-fields-requires
-stepped-fields-requires c κs = search needs
+stepped-figures-requires : tie.Need-stepped-figures-requires
+stepped-figures-requires c κs = search needs
 
 pack-requires : tie.Need-pack-requires
-pack-requires c κs = subst Fits (sym (c .stepped-fields .ensures)) (stepped-fits (c .before .before .before .before .args .table .now) (c .before .before .before .before .args .slot) (c .before .before .before .before .args .name .now) (c .before .step .result) (c .before .step .ensures))
+pack-requires c κs = subst Fits (sym (c .stepped-figures .ensures)) (stepped-fits (c .before .before .before .before .args .table .now) (c .before .before .before .before .args .slot) (c .before .before .before .before .args .name .now) (c .before .step .result) (c .before .step .ensures))
 
 returns : tie.Need-returns
-returns c = record { answer = c .before .before .step .result; holds = c .before .before .step .ensures; number = c .pack .ensures ∙ ap packed (c .before .stepped-fields .ensures) }
+returns c = record { answer = c .before .before .step .result; holds = c .before .before .step .ensures; number = c .pack .ensures ∙ ap packed (c .before .stepped-figures .ensures) }
 
 pub slots-step-spec : {M : Type 1} → statement M
-slots-step-spec = tie.close (tie.spec step-requires stepped-fields-requires pack-requires returns)
+slots-step-spec = tie.close (tie.spec step-requires stepped-figures-requires pack-requires returns)

@@ -10,18 +10,18 @@ use Rattle.exports.proofs.slots_write.Tie as tie
 write-requires : tie.Need-write-requires
 write-requires c κs = search needs
 
-written-fields-requires : tie.Need-written-fields-requires
-written-fields-requires c κs = search needs
+written-figures-requires : tie.Need-written-figures-requires
+written-figures-requires c κs = search needs
 
 pack-requires : tie.Need-pack-requires
-pack-requires c κs = subst Fits (sym (c .written-fields .ensures)) (written-fits (c .before .before .before .before .before .before .before .args .table .now) (c .before .before .before .before .before .before .before .args .text .now) (c .before .before .before .write .last .1 .0) (c .before .before .before .write .result) (c .before .before .before .write .ensures))
+pack-requires c κs = subst Fits (sym (c .written-figures .ensures)) (written-fits (c .before .before .before .before .before .before .before .args .table .now) (c .before .before .before .before .before .before .before .args .text .now) (c .before .before .before .write .last .1 .0) (c .before .before .before .write .result) (c .before .before .before .write .ensures))
 
 same-length : tie.Need-same-length
 same-length c = search needs
 
 returns : tie.Need-returns
-returns c = record { answer = c .before .before .before .before .write .result; holds = c .before .before .before .before .write .ensures; number = c .pack .ensures ∙ ap packed (c .before .written-fields .ensures) }
+returns c = record { answer = c .before .before .before .before .write .result; holds = c .before .before .before .before .write .ensures; number = c .pack .ensures ∙ ap packed (c .before .written-figures .ensures) }
 
 pub slots-write-spec : {M : Type 1} → statement M
 slots-write-spec =
-    tie.close (tie.spec write-requires written-fields-requires pack-requires same-length returns)
+    tie.close (tie.spec write-requires written-figures-requires pack-requires same-length returns)

@@ -1,8 +1,10 @@
 -- `writer::count` meets its contract: it tells the loader's answer. Assumes nothing.
 use mathlib.Core.List.{List}
-use mathlib.Core.Path.{subst}
+use mathlib.Core.Path.{subst, ap}
 use Prim.Native.Nat.{ℕ}
 use Rattle.loader.specs.Answers.{LoadAnswer}
+use Rattle.writer.specs.Answers.{countedFigures}
+use Rattle.writer.specs.declared.Counted.the-variants.{Counts}
 use borrow.Author.Needs.{needs}
 use Rattle.writer.proofs.count.Statement.{statement}
 use Rattle.writer.proofs.count.Tie as tie
@@ -41,7 +43,7 @@ returns-2 c = let s = c .before .before .before .before .before .before .before 
     let y : List ℕ = c .before .before .before .before .before .before .load .last .1 .1 .0 in
     let z : List ℕ = c .before .before .before .before .before .before .load .last .1 .1 .1 .0 in
     let g = subst (λ r. LoadAnswer s r x y z) (c .before .l2 .given .1)
-    (c .before .before .before .before .before .before .load .ensures) in (g .0, g .1, g .2)
+    (c .before .before .before .before .before .before .load .ensures) in (g .0, g .1, ap (λ k. countedFigures (Counts k)) (g .2))
 
 pub count-spec : {M : Type 1} → statement M
 count-spec =

@@ -1,9 +1,9 @@
--- `exports::matched_fields` meets its contract. Assumes nothing.
+-- `exports::matched_figures` meets its contract. Assumes nothing.
 use mathlib.Core.Path.{sym, ap, _∙_}
-use Rattle.exports.specs.Codes.{matchedFields}
+use Rattle.matching.specs.Matches.{matchedFigures}
 use borrow.Author.Needs.{needs}
-use Rattle.exports.proofs.matched_fields.Statement.{statement}
-use Rattle.exports.proofs.matched_fields.Tie as tie
+use Rattle.exports.proofs.matched_figures.Statement.{statement}
+use Rattle.exports.proofs.matched_figures.Tie as tie
 
 enum-known-r : tie.Need-enum-known-r
 enum-known-r c = search needs
@@ -26,23 +26,23 @@ four-requires-3 c κs = search needs
 enum-known-r-4 : tie.Need-enum-known-r-4
 enum-known-r-4 c = search needs
 
-refusal-fields-requires : tie.Need-refusal-fields-requires
-refusal-fields-requires c κs = search needs
+refusal-figures-requires : tie.Need-refusal-figures-requires
+refusal-figures-requires c κs = search needs
 
 returns : tie.Need-returns
-returns c = c .four .ensures ∙ sym (ap matchedFields (c .before .before .r .given .1))
+returns c = c .four .ensures ∙ sym (ap matchedFigures (c .before .before .r .given .1))
 
 returns-2 : tie.Need-returns-2
-returns-2 c = c .four2 .ensures ∙ sym (ap matchedFields (c .before .before .r2 .given .1))
+returns-2 c = c .four2 .ensures ∙ sym (ap matchedFigures (c .before .before .r2 .given .1))
 
 returns-3 : tie.Need-returns-3
-returns-3 c = c .four3 .ensures ∙ sym (ap matchedFields (c .before .before .r3 .given .1))
+returns-3 c = c .four3 .ensures ∙ sym (ap matchedFigures (c .before .before .r3 .given .1))
 
 returns-4 : tie.Need-returns-4
-returns-4 c = c .refusal-fields .ensures ∙ sym (ap matchedFields (c .before .before .r4 .given .1))
+returns-4 c = c .refusal-figures .ensures ∙ sym (ap matchedFigures (c .before .before .r4 .given .1))
 
-pub matched-fields-spec : {M : Type 1} → statement M
-matched-fields-spec =
+pub matched-figures-spec : {M : Type 1} → statement M
+matched-figures-spec =
     tie.close
     (tie.spec
     enum-known-r
@@ -52,7 +52,7 @@ matched-fields-spec =
     enum-known-r-3
     four-requires-3
     enum-known-r-4
-    refusal-fields-requires
+    refusal-figures-requires
     returns
     returns-2
     returns-3

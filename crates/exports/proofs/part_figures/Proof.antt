@@ -1,10 +1,10 @@
--- `exports::part_fields` meets its contract. Assumes nothing.
+-- `exports::part_figures` meets its contract. Assumes nothing.
 use mathlib.Core.Path.{sym, ap, subst, _∙_}
-use Rattle.exports.specs.Codes.{partFields}
+use Rattle.exports.specs.Codes.{partFigures}
 use Rattle.exports.specs.Inner.Fitting.{Forward}
 use borrow.Author.Needs.{needs}
-use Rattle.exports.proofs.part_fields.Statement.{statement}
-use Rattle.exports.proofs.part_fields.Tie as tie
+use Rattle.exports.proofs.part_figures.Statement.{statement}
+use Rattle.exports.proofs.part_figures.Tie as tie
 
 enum-known-r : tie.Need-enum-known-r
 enum-known-r c = search needs
@@ -31,16 +31,16 @@ four-requires-3 : tie.Need-four-requires-3
 four-requires-3 c κs = search needs
 
 returns : tie.Need-returns
-returns c = c .four .ensures ∙ sym (ap partFields (c .before .before .r .given .1))
+returns c = c .four .ensures ∙ sym (ap partFigures (c .before .before .r .given .1))
 
 returns-2 : tie.Need-returns-2
-returns-2 c = c .four2 .ensures ∙ sym (ap partFields (c .before .before .r2 .given .1))
+returns-2 c = c .four2 .ensures ∙ sym (ap partFigures (c .before .before .r2 .given .1))
 
 returns-3 : tie.Need-returns-3
-returns-3 c = c .four3 .ensures ∙ sym (ap partFields (c .before .enum-told .given .1))
+returns-3 c = c .four3 .ensures ∙ sym (ap partFigures (c .before .enum-told .given .1))
 
-pub part-fields-spec : {M : Type 1} → statement M
-part-fields-spec =
+pub part-figures-spec : {M : Type 1} → statement M
+part-figures-spec =
     tie.close
     (tie.spec
     enum-known-r
