@@ -10,6 +10,7 @@ ghost use Rattle.table.specs.Inner.Draft.{values};
 ghost use Rattle.table.specs.Inner.Tests.{fine, arity, whole, rooted, leavesOf, ordered, settle, nests, stackOf};
 ghost use Rattle.table.specs.Inner.Tests.{large, cost, total};
 use model::Model;
+use model::NameNumber;
 
 fn wide16(x: u16) -> usize
     ensures { λ r. ⌜ (r ≡ x) × (r < 65536) ⌝ }
@@ -172,12 +173,13 @@ pub fn is_large(words: &[u32], slots: usize) -> bool
 }
 
 // ---- 17: the length of the text
-// The length of the name of number v, 0 for none.
-fn length_of(lengths: &[u16], v: usize) -> usize
-    ensures { λ r. ⌜ (r ≡ getD (now (lengths .entry)) v 0) × (r < 65536) ⌝ }
+// The length of the name of number n, 0 for none.
+fn length_of(lengths: &[u16], n: NameNumber) -> usize
+    ensures { λ r. ⌜ (r ≡ getD (now (lengths .entry)) (n .0) 0) × (r < 65536) ⌝ }
 {
-    if v < lengths.len() {
-        return wide16(lengths[v]);
+    let i = n.0;
+    if i < lengths.len() {
+        return wide16(lengths[i]);
     }
     0
 }
@@ -189,7 +191,7 @@ fn cost_of(lengths: &[u16], w: u32) -> usize
     let v = draft::value_of(w);
     let mut n = v + 1;
     if draft::kind_of(w) == 0 {
-        n = length_of(lengths, v);
+        n = length_of(lengths, NameNumber(v));
     }
     if draft::mark_of(w) == 0 {
         return n;

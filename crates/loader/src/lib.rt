@@ -12,6 +12,7 @@ ghost use Rattle.loader.specs.Answers.{LoadAnswer};
 ghost use Rattle.loader.specs.Inner.Parts.{Headed, HeaderAnswer, NodesAnswer, NamesAnswer, restOf};
 use fields::Bits;
 use model::Model;
+use model::NameNumber;
 use model::Refusal;
 
 pub enum Loaded {
@@ -152,12 +153,15 @@ fn take_names(table: &[u8], from: usize, m: usize, starts: &mut [u16], lengths: 
     at == table.len()
 }
 
-// Are the names of numbers i and j equal?
-fn same_at(table: &[u8], starts: &[u16], lengths: &[u16], i: usize, j: usize) -> bool
-    requires { ⌜ Stands (now table) (now starts) (now lengths) i × Stands (now table) (now starts) (now lengths) j ⌝ }
-    ensures { λ r. ⌜ r ≡ sameBytes (nameAt (now (table .entry)) (now (starts .entry)) (now (lengths .entry)) i)
-        (nameAt (now (table .entry)) (now (starts .entry)) (now (lengths .entry)) j) ⌝ }
+// Are the names of numbers m and n equal?
+fn same_at(table: &[u8], starts: &[u16], lengths: &[u16], m: NameNumber, n: NameNumber) -> bool
+    requires { ⌜ Stands (now table) (now starts) (now lengths) (m .0)
+        × Stands (now table) (now starts) (now lengths) (n .0) ⌝ }
+    ensures { λ r. ⌜ r ≡ sameBytes (nameAt (now (table .entry)) (now (starts .entry)) (now (lengths .entry)) (m .0))
+        (nameAt (now (table .entry)) (now (starts .entry)) (now (lengths .entry)) (n .0)) ⌝ }
 {
+    let i = m.0;
+    let j = n.0;
     let a = wide16(starts[i]);
     let b = a + wide16(lengths[i]);
     let c = wide16(starts[j]);
@@ -174,7 +178,7 @@ fn all_apart(table: &[u8], starts: &[u16], lengths: &[u16], m: usize) -> bool
     while i < m {
         let mut j = i + 1;
         while j < m {
-            if same_at(table, starts, lengths, i, j) {
+            if same_at(table, starts, lengths, NameNumber(i), NameNumber(j)) {
                 return false;
             }
             j += 1;

@@ -17,6 +17,7 @@ ghost use Rattle.reader.specs.Inner.Phrases.{Phrase, Wants, Opens, Follo
 use model::Kind;
 use model::Mark;
 use model::Model;
+use model::NameNumber;
 use model::Node;
 use model::Refusal;
 
@@ -150,22 +151,22 @@ fn number_of(
     names: usize,
     from: usize,
     to: usize,
-) -> usize
+) -> NameNumber
     requires { ⌜ (from ≤ to) × (to ≤ length (now text)) ⌝ }
     requires { ⌜ (names ≤ length (now starts)) × (names ≤ length (now lengths)) × Inside (now text) (now starts) (now lengths) names ⌝ }
     ensures { λ r.
-        ⌜ (r ≡ index sameBytes (take (to - from) (drop from (now (text .entry)))) (namesOf (now (text .entry)) (now (starts .entry)) (now (lengths .entry)) 0 names)) × (r ≤ names) ⌝ }
+        ⌜ (r .0 ≡ index sameBytes (take (to - from) (drop from (now (text .entry)))) (namesOf (now (text .entry)) (now (starts .entry)) (now (lengths .entry)) 0 names)) × (r .0 ≤ names) ⌝ }
 {
     let mut i = 0;
     while i < names {
         let start = wide(starts[i]);
         let end = start + wide(lengths[i]);
         if names::same(&text[from..to], &text[start..end]) {
-            return i;
+            return NameNumber(i);
         }
         i += 1;
     }
-    i
+    NameNumber(i)
 }
 
 // Enters the name from `at` to before `end`, with its mark, into the draft. The counts with it.
@@ -185,27 +186,30 @@ fn enter(
         ⌜ Grown (now (text .entry)) (leaf mark (take (end - at) (drop at (now (text .entry))))) counts (now (words .entry)) (now (starts .entry)) (now (lengths .entry)) r (now (words .exit)) (now (starts .exit)) (now (lengths .exit)) ⌝ }
 {
     let node = counts.nodes;
-    let slots = counts.slots;
     let known = counts.names;
-    let number = number_of(text, starts, lengths, known, at, end);
+    let n = number_of(text, starts, lengths, known, at, end);
+    let number = n.0;
     words[node] = draft::word_of(Node {
         kind: Kind::Name,
         mark: mark,
         value: number as u16,
     });
+    let nodes = node + 1;
+    let slots = counts.slots + 1;
     if number < known {
         return Model {
-            nodes: node + 1,
-            slots: slots + 1,
+            nodes,
+            slots,
             names: known,
         };
     }
     starts[known] = at as u16;
     lengths[known] = (end - at) as u16;
+    let names = known + 1;
     Model {
-        nodes: node + 1,
-        slots: slots + 1,
-        names: known + 1,
+        nodes,
+        slots,
+        names,
     }
 }
 

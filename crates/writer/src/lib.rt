@@ -11,6 +11,7 @@ use loader::Loaded;
 use model::Kind;
 use model::Mark;
 use model::Model;
+use model::NameNumber;
 use model::Refusal;
 
 pub enum Counted {
@@ -93,24 +94,25 @@ fn joint_of(kind: Kind) -> u8
     }
 }
 
-// Writes the name of number v and its mark, and gives the place behind them.
+// Writes the name of number n and its mark, and gives the place behind them.
 fn put_leaf(
     source: &[u8],
     starts: &[u16],
     lengths: &[u16],
-    v: usize,
+    n: NameNumber,
     mark: Mark,
     text: &mut [u8],
     at: usize,
 ) -> usize
-    requires { ⌜ Stands (now source) (now starts) (now lengths) v
-        × (at + length (nameAt (now source) (now starts) (now lengths) v ++ sign mark) ≤ length (now text)) ⌝ }
+    requires { ⌜ Stands (now source) (now starts) (now lengths) (n .0)
+        × (at + length (nameAt (now source) (now starts) (now lengths) (n .0) ++ sign mark) ≤ length (now text)) ⌝ }
     ensures { λ r. ⌜ Put (now (text .entry)) at
-        (nameAt (now (source .entry)) (now (starts .entry)) (now (lengths .entry)) v ++ sign mark) r
+        (nameAt (now (source .entry)) (now (starts .entry)) (now (lengths .entry)) (n .0) ++ sign mark) r
         (now (text .exit)) ⌝ }
 {
-    let start = wide16(starts[v]);
-    let size = wide16(lengths[v]);
+    let i = n.0;
+    let start = wide16(starts[i]);
+    let size = wide16(lengths[i]);
     let end = put_name(source, start, size, text, at);
     put_mark(text, end, mark)
 }
@@ -147,7 +149,7 @@ fn put_node(
     if c == 0 {
         return Spot {
             next: i + 1,
-            at: put_leaf(source, starts, lengths, k, mark, text, at),
+            at: put_leaf(source, starts, lengths, NameNumber(k), mark, text, at),
         };
     }
     let mut lead = b'(';

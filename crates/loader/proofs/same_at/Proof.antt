@@ -66,13 +66,13 @@ part-same-end c =
     (c .before .before .before .before .before .before .before .before .before .before .before .args .starts .now)
     (c .before .before .before .before .before .before .before .before .before .before .before .args .lengths
     .now) (c .before .before .before .before .before .before .before .before .before .before .before .args
-    .i) = c .before .before .before .before .before .before .before .before .before .before .before .pre .0 in
+    .m .0) = c .before .before .before .before .before .before .before .before .before .before .before .pre .0 in
     let h : Stands
     (c .before .before .before .before .before .before .before .before .before .before .before .args .table .now)
     (c .before .before .before .before .before .before .before .before .before .before .before .args .starts .now)
     (c .before .before .before .before .before .before .before .before .before .before .before .args .lengths
     .now) (c .before .before .before .before .before .before .before .before .before .before .before .args
-    .j) = c .before .before .before .before .before .before .before .before .before .before .before .pre
+    .n .0) = c .before .before .before .before .before .before .before .before .before .before .before .pre
     .1 in
     let w = g .within in
     omega (
@@ -96,7 +96,7 @@ part-same-end-2 c =
     (c .before .before .before .before .before .before .before .before .before .before .before .before .args
     .lengths .now)
     (c .before .before .before .before .before .before .before .before .before .before .before .before
-    .args .i) = c .before .before .before .before .before .before .before .before .before .before .before
+    .args .m .0) = c .before .before .before .before .before .before .before .before .before .before .before
     .before .pre .0 in
     let h : Stands
     (c .before .before .before .before .before .before .before .before .before .before .before .before .args
@@ -106,7 +106,7 @@ part-same-end-2 c =
     (c .before .before .before .before .before .before .before .before .before .before .before .before
     .args .lengths .now)
     (c .before .before .before .before .before .before .before .before .before .before .before .before
-    .args .j) = c .before .before .before .before .before .before .before .before .before .before
+    .args .n .0) = c .before .before .before .before .before .before .before .before .before .before
     .before .before .pre .1 in
     let w = h .within in omega (arith, c .before .before .before .wide163 .ensures .0, c .before .wide164 .ensures .0)
 
@@ -124,12 +124,12 @@ returns c = let s = c .before .before .before .before .before .before .before .b
     .before .before .before .before .before .before .wide162 .result - c .before .before .before .before .before
     .before .before .before .before .wide16 .result
     ≡ getD q (c .before .before .before .before .before .before .before .before .before .before .before
-    .before .before .before .args .i) 0 = let z =
+    .before .before .before .args .m .0) 0 = let z =
     c .before .before .before .before .before .before .before .wide162 .ensures .0 in omega arith in
     let f : c .before .before .before .before .before .wide163 .result + c .before .before .before .wide164
     .result - c .before .before .before .before .before .wide163 .result
     ≡ getD q (c .before .before .before .before .before .before .before .before .before .before .before .before
-    .before .before .args .j) 0 = let z = c .before .before .before .wide164 .ensures .0 in omega arith in
+    .before .before .args .n .0) 0 = let z = c .before .before .before .wide164 .ensures .0 in omega arith in
     same-is _ _ (c .same .result) (c .same .ensures)
     ∙ ap₂ sameBytes
     (ap₂ (λ (x y : ℕ). take y (drop x s))

@@ -11,67 +11,62 @@ number-of-requires : tie.Need-number-of-requires
 number-of-requires c κs = search needs
 
 cast-starts : tie.Need-cast-starts
-cast-starts c = omega arith
+cast-starts c = search needs
 
 word-of-requires : tie.Need-word-of-requires
-word-of-requires c κs = omega arith
+word-of-requires c κs = search needs
 
 mul-words : tie.Need-mul-words
-mul-words c = omega arith
+mul-words c = search needs
 
 slice-write-words : tie.Need-slice-write-words
-slice-write-words c = omega arith
+slice-write-words c = search needs
 
-add-t24 : tie.Need-add-t24
-add-t24 c = omega arith
+add-nodes : tie.Need-add-nodes
+add-nodes c = search needs
 
-add-t25 : tie.Need-add-t25
-add-t25 c = omega arith
+add-slots : tie.Need-add-slots
+add-slots c = search needs
 
 same-length : tie.Need-same-length
 same-length c = search needs
 
 same-length-2 : tie.Need-same-length-2
-same-length-2 c = omega arith
+same-length-2 c = search needs
 
 same-length-3 : tie.Need-same-length-3
-same-length-3 c = omega arith
+same-length-3 c = search needs
 
 returns : tie.Need-returns
 returns c =
-    let s = c .before .before .before .before .before .before .before .before .before in
-    grown-seen _ _ _ _ _ (s .pre .1) _ _ (s .pre .0 .2) (s .pre .0 .3) _ _ (c .before .before .number-of .ensures .0)
-    (c .before .word-of .ensures) (c .if1 .taken)
+    let s = c .before .before .before .before .before .before .before .before .before .before in
+    grown-seen _ _ _ _ _ (s .pre .1) _ _ (s .pre .0 .2) (s .pre .0 .3) _ _
+    (c .before .before .before .number-of .ensures .0)
+    (c .before .before .word-of .ensures) (c .if1 .taken)
 
 cast-starts-2 : tie.Need-cast-starts-2
-cast-starts-2 c = omega arith
+cast-starts-2 c = search needs
 
 mul-starts : tie.Need-mul-starts
-mul-starts c = omega arith
+mul-starts c = search needs
 
 slice-write-starts : tie.Need-slice-write-starts
-slice-write-starts c = omega arith
+slice-write-starts c = search needs
 
 sub-lengths : tie.Need-sub-lengths
-sub-lengths c = omega arith
+sub-lengths c = search needs
 
 cast-lengths : tie.Need-cast-lengths
-cast-lengths c = omega arith
+cast-lengths c = search needs
 
 mul-lengths : tie.Need-mul-lengths
-mul-lengths c = omega arith
+mul-lengths c = search needs
 
 slice-write-lengths : tie.Need-slice-write-lengths
-slice-write-lengths c = omega arith
+slice-write-lengths c = search needs
 
-add-t21 : tie.Need-add-t21
-add-t21 c = omega arith
-
-add-t27 : tie.Need-add-t27
-add-t27 c = omega arith
-
-add-t29 : tie.Need-add-t29
-add-t29 c = omega arith
+add-names : tie.Need-add-names
+add-names c = search needs
 
 same-length-4 : tie.Need-same-length-4
 same-length-4 c = search needs
@@ -84,9 +79,10 @@ same-length-6 c = search needs
 
 returns-2 : tie.Need-returns-2
 returns-2 c =
-    let s = c .before .before .before .before .before .before .before .before .before in
-    grown-new _ _ _ _ _ (s .pre .1) _ _ (s .pre .0 .2) (s .pre .0 .3) _ _ (c .before .before .number-of .ensures .0)
-    (c .before .word-of .ensures) (s .args .at) (s .args .end - s .args .at) (omega arith) (omega arith) refl
+    let s = c .before .before .before .before .before .before .before .before .before .before in
+    grown-new _ _ _ _ _ (s .pre .1) _ _ (s .pre .0 .2) (s .pre .0 .3) _ _
+    (c .before .before .before .number-of .ensures .0)
+    (c .before .before .word-of .ensures) (s .args .at) (s .args .end - s .args .at) (omega arith) (omega arith) refl
 
 pub enter-spec : {M : Type 1} → statement M
 enter-spec =
@@ -97,8 +93,8 @@ enter-spec =
     word-of-requires
     mul-words
     slice-write-words
-    add-t24
-    add-t25
+    add-nodes
+    add-slots
     same-length
     same-length-2
     same-length-3
@@ -110,9 +106,7 @@ enter-spec =
     cast-lengths
     mul-lengths
     slice-write-lengths
-    add-t21
-    add-t27
-    add-t29
+    add-names
     same-length-4
     same-length-5
     same-length-6

@@ -38,11 +38,11 @@ put-name-requires c κs = let a = c .before .before .before .before .before .bef
     let o = a .text .now in
     let st = a .starts .now in
     let le = a .lengths .now in
-    let g : Stands s st le (a .v) = c .before .before .before .before .before .before .before .before .before .pre .0 in
+    let g : Stands s st le (a .n .0) = c .before .before .before .before .before .before .before .before .before .pre .0 in
     let k = c .before .before .before .before .before .before .before .before .before .pre .1 in
-    let b : Bytes = nameAt s st le (a .v) in
-    let l : length b ≡ getD le (a .v) 0 = length-take-le (getD le (a .v) 0) (drop (getD st (a .v) 0) s)
-    (let h = g .within in omega (arith, length-drop (getD st (a .v) 0) s)) in
+    let b : Bytes = nameAt s st le (a .n .0) in
+    let l : length b ≡ getD le (a .n .0) 0 = length-take-le (getD le (a .n .0) 0) (drop (getD st (a .n .0) 0) s)
+    (let h = g .within in omega (arith, length-drop (getD st (a .n .0) 0) s)) in
     let h = g .within in (
       omega (arith, c .before .before .before .wide16 .ensures .0, c .before .wide162 .ensures .0),
       omega (arith, c .before .wide162 .ensures .0, length-append b (sign (a .mark))),
@@ -55,13 +55,13 @@ put-mark-requires c κs = let a = c .before .before .before .before .before .bef
     let o = a .text .now in
     let st = a .starts .now in
     let le = a .lengths .now in
-    let g : Stands s st le (a .v) = c .before .before .before .before .before .before .before .before .before .before
+    let g : Stands s st le (a .n .0) = c .before .before .before .before .before .before .before .before .before .before
     .before .before .before .pre .0 in
     let k = c .before .before .before .before .before .before .before .before .before .before .before .before .before
     .pre .1 in
-    let b : Bytes = nameAt s st le (a .v) in
-    let l : length b ≡ getD le (a .v) 0 = length-take-le (getD le (a .v) 0) (drop (getD st (a .v) 0) s)
-    (let h = g .within in omega (arith, length-drop (getD st (a .v) 0) s)) in
+    let b : Bytes = nameAt s st le (a .n .0) in
+    let l : length b ≡ getD le (a .n .0) 0 = length-take-le (getD le (a .n .0) 0) (drop (getD st (a .n .0) 0) s)
+    (let h = g .within in omega (arith, length-drop (getD st (a .n .0) 0) s)) in
     let w = c .before .before .before .put-name .ensures .wrote .size in
     let n = ap₂ (λ (i j : ℕ). length (take j (drop i s)))
     (c .before .before .before .before .before .before .before .wide16 .ensures .0)
@@ -78,13 +78,13 @@ returns c = let a = c .before .before .before .before .before .before .before .b
     let o = a .text .now in
     let st = a .starts .now in
     let le = a .lengths .now in
-    let g : Stands s st le (a .v) = c .before .before .before .before .before .before .before .before .before .before
+    let g : Stands s st le (a .n .0) = c .before .before .before .before .before .before .before .before .before .before
     .before .before .before .before .before .before .pre .0 in
     let k = c .before .before .before .before .before .before .before .before .before .before .before .before .before
     .before .before .before .pre .1 in
-    let b : Bytes = nameAt s st le (a .v) in
-    let l : length b ≡ getD le (a .v) 0 = length-take-le (getD le (a .v) 0) (drop (getD st (a .v) 0) s)
-    (let h = g .within in omega (arith, length-drop (getD st (a .v) 0) s)) in
+    let b : Bytes = nameAt s st le (a .n .0) in
+    let l : length b ≡ getD le (a .n .0) 0 = length-take-le (getD le (a .n .0) 0) (drop (getD st (a .n .0) 0) s)
+    (let h = g .within in omega (arith, length-drop (getD st (a .n .0) 0) s)) in
     let x : List ℕ = c .before .before .before .before .before .before .put-name .last .1 .1 .1 .0 in
     let y : List ℕ = c .before .before .put-mark .last .0 in
     let e : Put o (a .at) b (c .before .before .before .before .before .before .put-name .result) x =
