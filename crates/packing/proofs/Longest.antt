@@ -9,7 +9,7 @@ use Rattle.meaning.specs.Trees.{Tree, leaf, sequence, choice, Members, last, an
 use Rattle.names.specs.Bytes.{Bytes}
 use Rattle.names.proofs.Places.{split}
 use Rattle.table.specs.Encoding.{sameBytes, has, firsts, names, numbers, encode}
-use Rattle.table.specs.Texts.{written, joined, sign}
+use Rattle.grammar.specs.Written.{written, joined, sign}
 use Rattle.table.specs.Models.{Lawful}
 use Rattle.table.specs.Inner.Draft.{words}
 use Rattle.table.proofs.Packing.{bytesOf, nameBytes}

@@ -1,18 +1,14 @@
 -- What users rely on: one answer only; what is read is lawful; a lawful text is read back. Assumes nothing.
-use mathlib.Core.List.{List, [], _∷_, _++_}
-use mathlib.Core.Path.{_≡_, refl, sym, ap, ap₂, subst, _∙_}
+use mathlib.Core.List.{List, [], _∷_}
+use mathlib.Core.Path.{_≡_, sym, ap, _∙_}
 use Prim.Native.Nat.{ℕ, _≤_}
 use native.Mathlib.Omega.{arith}
 use lib.ListN.{length}
 use Rattle.model.specs.Limits.{textLimit}
-use Rattle.model.specs.declared.Mark.{Mark}
-use Rattle.model.specs.declared.Mark.the-variants.{Plain, Optional, Star, Plus}
-use Rattle.meaning.specs.Trees.{Tree, leaf, sequence, choice, Members, last, and}
+use Rattle.meaning.specs.Trees.{Tree}
 use Rattle.names.specs.Bytes.{Bytes, space}
-use Rattle.table.specs.Models.{Lawful}
-use Rattle.table.specs.Texts
 use Rattle.grammar.specs.Faults.{Reads}
-use Rattle.grammar.specs.Written.{strip, sign, written, joined}
+use Rattle.grammar.specs.Written.{strip, written}
 use Rattle.grammar.proofs.Classes.{decide}
 use Rattle.grammar.proofs.Limits.{reads-within}
 use Rattle.grammar.proofs.Reading.{reads-not-refused, reads-unique, refused-unique}
@@ -20,7 +16,7 @@ use Rattle.grammar.proofs.Written.{model-written, written-reads}
 use Rattle.reader.specs.Inner.Answers.{ReadingAnswer}
 use Rattle.reader.specs.declared.Reading.{Reading}
 use Rattle.reader.specs.declared.Reading.the-variants.{Refused, Filled}
-use Rattle.table.specs.Models.{counts}
+use Rattle.table.specs.Models.{Lawful, counts}
 
 -- any two answers are the same
 pub reading-unique :
@@ -32,25 +28,6 @@ reading-unique text (Filled c) (Refused g) ws ss ls ws₂ ss₂ ls₂ a b = absu
 reading-unique text (Filled c) (Filled d) ws ss ls ws₂ ss₂ ls₂ a b =
     ap Filled (a .2 ∙ ap counts (reads-unique (a .1) (b .1)) ∙ sym (b .2))
 
--- the two forms of the written text
-same-sign : (m : Mark) → sign m ≡ Texts.sign m
-same-sign Plain = refl
-same-sign Optional = refl
-same-sign Star = refl
-same-sign Plus = refl
-
-mutual
-  same-written : (t : Tree Bytes) → written t ≡ Texts.written t
-  same-written (leaf m a) = ap (λ s. a ++ s) (same-sign m)
-  same-written (sequence m ks) = ap₂ (λ s r. 40 ∷ (s ++ (41 ∷ r))) (same-joined ks 44) (same-sign m)
-  same-written (choice m k ks) =
-      ap₂ (λ s r. 40 ∷ (s ++ (41 ∷ r))) (ap₂ (λ s r. s ++ (124 ∷ r)) (same-written k) (same-joined ks 124))
-      (same-sign m)
-
-  same-joined : (ks : Members Bytes) (c : ℕ) → joined c ks ≡ Texts.joined c ks
-  same-joined (last k) c = same-written k
-  same-joined (and k ks) c = ap₂ (λ s r. s ++ (c ∷ r)) (same-written k) (same-joined ks c)
-
 strip-short : (s : Bytes) → length (strip s) ≤ length s
 strip-short [] = omega arith
 strip-short (b ∷ s) =
@@ -58,8 +35,8 @@ strip-short (b ∷ s) =
     decide (space b) (λ e. rw e (omega arith)) (λ e. rw e (omega arith))
 
 -- reading and then writing gives the text without its white space
-pub read-written : {text : Bytes} {t : Tree Bytes} → Reads text t → Texts.written t ≡ strip text
-read-written {text} {t} r = sym (same-written t) ∙ sym (model-written (r .model))
+pub read-written : {text : Bytes} {t : Tree Bytes} → Reads text t → written t ≡ strip text
+read-written r = sym (model-written (r .model))
 
 -- what is read is lawful
 pub read-lawful : {text : Bytes} {t : Tree Bytes} → length text ≤ textLimit → Reads text t → Lawful t
@@ -75,8 +52,7 @@ read-lawful {text} {t} h r =
     }
 
 -- and a lawful model's text is read back
-pub lawful-read : {t : Tree Bytes} → Lawful t → Reads (Texts.written t) t
+pub lawful-read : {t : Tree Bytes} → Lawful t → Reads (written t) t
 lawful-read {t} l =
-    subst (λ s. Reads s t) (same-written t)
-    (written-reads t
-    (record { group = l .group; names = l .named; deep = l .deep; slots = l .slots; small = l .small }))
+    written-reads t
+    record { group = l .group; names = l .named; deep = l .deep; slots = l .slots; small = l .small }

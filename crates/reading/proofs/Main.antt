@@ -14,10 +14,9 @@ use Rattle.meaning.specs.Trees.{Tree}
 use Rattle.names.specs.Bytes.{Bytes}
 use Rattle.grammar.specs.Faults.{Reads}
 use Rattle.grammar.specs.Faults
-use Rattle.grammar.specs.Written.{strip}
+use Rattle.grammar.specs.Written.{strip, written}
 use Rattle.grammar.proofs.Main.{reads-not-refused, reads-unique, refused-unique}
 use Rattle.table.specs.Encoding.{encode}
-use Rattle.table.specs.Texts.{written}
 use Rattle.table.specs.Models.{Lawful, Loads}
 use Rattle.reader.proofs.Lawful.{read-lawful, read-written, lawful-read}
 use Rattle.writer.specs.Answers.{WriteAnswer}

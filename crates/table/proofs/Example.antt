@@ -7,7 +7,7 @@ use Rattle.meaning.specs.Trees.{Tree, leaf, sequence, last, and}
 use Rattle.names.specs.Bytes.{Bytes}
 use Rattle.table.specs.Fields.{allBits, bytes}
 use Rattle.table.specs.Encoding.{encode}
-use Rattle.table.specs.Texts.{written}
+use Rattle.grammar.specs.Written.{written}
 
 abbrev house : Bytes
 house = 104 ∷ 111 ∷ 117 ∷ 115 ∷ 101 ∷ []

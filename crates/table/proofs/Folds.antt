@@ -19,7 +19,7 @@ use Rattle.meaning.specs.Trees.{all-depth, all-relabel}
 use Rattle.names.specs.Bytes.{Bytes}
 use Rattle.names.proofs.Places.{split}
 use Rattle.table.specs.Encoding.{has, firsts}
-use Rattle.table.specs.Texts.{sign, written, joined}
+use Rattle.grammar.specs.Written.{sign, written, joined}
 use Rattle.table.specs.Refusals.{upto, model}
 use Rattle.table.specs.Inner.Draft.{word, words, all-words, values, kindOf, valueOf}
 use Rattle.table.specs.Inner.Forest.{Below, AllBelow}

@@ -8,7 +8,7 @@ use Rattle.meaning.specs.Trees.{Tree, Group, leaves, depth, nodes}
 use Rattle.names.specs.Bytes.{Bytes}
 use Rattle.names.specs.Names.{Each, Name}
 use Rattle.table.specs.Encoding.{names, encode}
-use Rattle.table.specs.Texts.{written}
+use Rattle.grammar.specs.Written.{written}
 
 -- "The outermost thing is a group", its names are names, and no limit is passed
 pub record Lawful (t : Tree Bytes) : Type 0 where

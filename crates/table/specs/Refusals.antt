@@ -16,7 +16,7 @@ use Rattle.names.specs.Bytes.{Bytes}
 use Rattle.names.specs.Names.{Each, Name}
 use Rattle.table.specs.Fields.{packed}
 use Rattle.table.specs.Encoding.{treeFields, nameFields, firsts}
-use Rattle.table.specs.Texts.{written}
+use Rattle.grammar.specs.Written.{written}
 
 -- ---- what a table says, whatever it is
 -- the node count and the name count of its header, 16 bits each

@@ -14,7 +14,7 @@ use Rattle.model.specs.declared.Refusal.{Refusal}
 use Rattle.meaning.specs.Trees.{Tree, nodes, leaves}
 use Rattle.names.specs.Bytes.{Bytes}
 use Rattle.table.specs.Encoding.{names, numbers}
-use Rattle.table.specs.Texts.{written}
+use Rattle.grammar.specs.Written.{written}
 use Rattle.table.specs.Models.{Loads}
 use Rattle.table.proofs.Lawful.{loads-sound, sound-free}
 use Rattle.table.proofs.Refusing.{fault-place, fault-values, first-unique}

@@ -8,7 +8,7 @@ use Rattle.model.specs.declared.Mark.{Mark}
 use Rattle.meaning.specs.Trees.{Tree, leaf, Group, nodes}
 use Rattle.names.specs.Bytes.{Bytes}
 use Rattle.names.specs.Names.{Each}
-use Rattle.table.specs.Texts.{sign}
+use Rattle.grammar.specs.Written.{sign}
 use Rattle.table.specs.Inner.Forest.{Below, treeAt, Stand, members, rootOf, sum}
 use Rattle.table.proofs.Words.{some-word}
 use Rattle.table.proofs.Standing.{sits-there, sits-within, sits-members, members-value, sum-nodes, Next, stand-case}

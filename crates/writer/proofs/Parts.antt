@@ -10,7 +10,7 @@ use Rattle.meaning.specs.Trees.{Tree, leaf, sequence, choice, Members, last, an
 use Rattle.meaning.specs.Trees.{all-relabel}
 use Rattle.names.specs.Bytes.{Bytes}
 use Rattle.names.specs.Names.{Each}
-use Rattle.table.specs.Texts.{sign, written, joined}
+use Rattle.grammar.specs.Written.{sign, written, joined}
 use Rattle.table.specs.Encoding.{names, numbers, sameBytes}
 use Rattle.table.specs.Inner.Draft.{nameAt, Drafted}
 use Rattle.table.specs.Inner.Forest.{Below, members, flat, rootOf}

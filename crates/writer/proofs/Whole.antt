@@ -11,7 +11,7 @@ use Rattle.model.specs.declared.Refusal.the-variants.{TextRoom}
 use Rattle.meaning.specs.Trees.{Tree}
 use Rattle.names.specs.Bytes.{Bytes}
 use Rattle.table.specs.Encoding.{names, numbers}
-use Rattle.table.specs.Texts.{written}
+use Rattle.grammar.specs.Written.{written}
 use Rattle.table.specs.Models.{Loads}
 use Rattle.table.specs.Refusals.{Fault, fault-11, fault-12, fault-13, fault-14, fault-15, fault-16, fault-17, First}
 use Rattle.table.specs.Refusals.{Refused}

@@ -11,7 +11,7 @@ use Rattle.model.specs.declared.Refusal.{Refusal}
 use Rattle.model.specs.declared.Refusal.the-variants.{TextRoom}
 use Rattle.meaning.specs.Trees.{Tree, nodes, leaves}
 use Rattle.names.specs.Bytes.{Bytes}
-use Rattle.table.specs.Texts.{written}
+use Rattle.grammar.specs.Written.{written}
 use Rattle.table.specs.Encoding.{names}
 use Rattle.table.specs.Models.{Loads}
 use Rattle.table.specs.Refusals.{Fault, First, Refused as Told}

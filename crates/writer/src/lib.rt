@@ -3,7 +3,7 @@ ghost use mathlib.Core.List.{[], _∷_, _++_};
 ghost use mathlib.Core.Path.{_≡_};
 ghost use Prim.Native.Nat.{_+_, _≤_, _<_};
 ghost use lib.ListN.{length, getD, take, drop};
-ghost use Rattle.table.specs.Texts.{sign};
+ghost use Rattle.grammar.specs.Written.{sign};
 ghost use Rattle.table.specs.Inner.Draft.{nameAt, Stands};
 ghost use Rattle.writer.specs.Answers.{CountAnswer, WriteAnswer};
 ghost use Rattle.writer.specs.Inner.Writing.{Put, joint, Ready, Done};

@@ -2,7 +2,7 @@
 use mathlib.Core.List.{List, [], _∷_}
 use mathlib.Core.Path.{_≡_}
 use Prim.Native.Nat.{ℕ, _+_}
-use Rattle.table.specs.Texts.{sign}
+use Rattle.grammar.specs.Written.{sign}
 use Rattle.writer.proofs.Places.{wrote-then}
 use native.Mathlib.Omega.{arith}
 use borrow.Author.Needs.{needs}

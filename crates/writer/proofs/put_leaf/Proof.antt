@@ -4,7 +4,7 @@ use mathlib.Core.Path.{_≡_, ap₂, subst}
 use Prim.Native.Nat.{ℕ}
 use lib.ListN.{length, getD, take, drop, length-drop, length-append}
 use Rattle.names.specs.Bytes.{Bytes}
-use Rattle.table.specs.Texts.{sign}
+use Rattle.grammar.specs.Written.{sign}
 use Rattle.writer.specs.Inner.Writing.{Put}
 use Rattle.writer.proofs.Places.{wrote-then}
 use Rattle.table.specs.Inner.Draft.{nameAt, Stands}

@@ -2,7 +2,7 @@
 use mathlib.Core.List.{[], _∷_}
 use mathlib.Core.Path.{_≡_, sym, ap, subst, _∙_}
 use lib.ListN.{length}
-use Rattle.table.specs.Texts.{sign}
+use Rattle.grammar.specs.Written.{sign}
 use Rattle.writer.specs.Inner.Writing.{Wrote, Put}
 use Rattle.writer.proofs.Places.{wrote-none}
 use Rattle.writer.proofs.Parts.{sign-none, sign-one}

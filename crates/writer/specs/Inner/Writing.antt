@@ -7,7 +7,7 @@ use Rattle.model.specs.declared.Kind.{Kind}
 use Rattle.model.specs.declared.Kind.the-variants.{Name, Sequence, Choice}
 use Rattle.meaning.specs.Trees.{Tree, nodes, relabel}
 use Rattle.names.specs.Bytes.{Bytes}
-use Rattle.table.specs.Texts.{written}
+use Rattle.grammar.specs.Written.{written}
 use Rattle.table.specs.Inner.Draft.{nameAt, Stands}
 use Rattle.table.specs.Inner.Forest.{Below, treeAt, Sits}
 use Rattle.writer.specs.declared.Spot.{Spot}
