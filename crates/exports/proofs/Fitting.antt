@@ -1,16 +1,12 @@
 -- The figures of each answer that a function permits fit their bits. Assumes nothing.
-use mathlib.Core.List.{List, [], _∷_}
+use mathlib.Core.List.{List}
 use mathlib.Core.Path.{_≡_, refl, sym, ap, subst}
 use Prim.Native.Nat.{ℕ, _+_, _-_, _^_, _≤_, _<_}
 use native.Mathlib.Omega.{arith}
 use lib.ListN.{length}
-use denote.Enum.Declared.{tagOf}
-use types.Run.{OneOf, miss}
 use Rattle.model.specs.Limits.{textLimit, childrenLimit, slotLimit, nodeLimit, tableRoom}
-use Rattle.model.specs.Refusals.{numberOf, placeOf, valuesOf, figuresOf}
+use Rattle.model.specs.Refusals.{figuresOf}
 use Rattle.model.specs.declared.Refusal.{Refusal}
-use Rattle.model.specs.declared.Refusal.the-variants.{TextTooLong, TableRoom, UnknownByte, WrongByte, NameTooLong, TooDeep, TooManySlots, TooManyNodes, TableTooShort, BadCounts, BadNodes, BadNames, BadOrder, TooLarge, WrittenTooLong, TextRoom, ChildrenTooLong, ChildByte, ChildTooLong, Ambiguous as Clashing, SlotRoom, NoSuchSlot}
-use Rattle.model.proofs.Refusal.{the-type}
 use Rattle.meaning.specs.Trees.{Tree, leaves}
 use Rattle.meaning.specs.Clashes.{ending, Clash, FirstClash}
 use Rattle.meaning.specs.Runs.{Marks, Held, Next, Run, here, move}
@@ -41,7 +37,7 @@ use Rattle.matching.specs.Passed.{NotPassed, refused, ambiguous}
 use Rattle.matching.specs.Matches.{Answers, MatchRefused, by-model, by-room, by-children, Placed, MatchAnswer}
 use Rattle.matching.specs.Steps.{StepRefused, by-slot, From, StepAnswer, steppedFigures}
 use Rattle.matching.specs.Steps
-use Rattle.matching.specs.Parts.{PartWhere, stopped, short, short-at-start, allowed, bad-children}
+use Rattle.matching.specs.Parts.{partFigures, PartWhere, stopped, short, short-at-start, allowed, bad-children}
 use Rattle.matching.specs.Parts
 use Rattle.matching.specs.declared.Matched.{Matched}
 use Rattle.matching.specs.declared.Matched.the-variants.{Allowed, Stopped, Short, Refused as Unmatched}
@@ -52,9 +48,9 @@ use Rattle.matching.specs.declared.Part.the-variants.{OfChildren, OfTable, AtEn
 use Rattle.matching.proofs.Parting.{part-children, part-table}
 use Rattle.writer.specs.Answers.{countedFigures}
 use Rattle.matching.specs.Matches.{matchedFigures}
-use Rattle.exports.specs.Codes.{partFigures}
 use Rattle.model.specs.declared.Figures.{Figures}
-use Rattle.exports.specs.Inner.Fitting.{Fits, Forward}
+use Rattle.telling.specs.Inner.Forward.{Forward}
+use Rattle.exports.specs.Inner.Fitting.{Fits}
 
 -- figures that are small
 fits : (number a b c : ℕ) → number < 256 → a ≤ childrenLimit → b ≤ childrenLimit → c ≤ slotLimit → Fits record { number = number; a = a; b = b; c = c }
@@ -219,35 +215,3 @@ part-few {s} {text} (short m z e) =
 
 pub part-fits : (s text : Bytes) (r : Part) → PartWhere s text r → Fits (partFigures r)
 part-fits s text r h = part-few h
-
--- ---- a refusal but 24 is told by its number and its place
--- the variants of a refusal but 24, as the compiler counts them
-abbrev others : List ℕ
-others = 0 ∷ 1 ∷ 2 ∷ 3 ∷ 4 ∷ 5 ∷ 6 ∷ 7 ∷ 8 ∷ 9 ∷ 10 ∷ 11 ∷ 12 ∷ 13 ∷ 14 ∷ 15 ∷ 16 ∷ 17 ∷ 18 ∷ 20 ∷ 21 ∷ []
-
-plain : (f : Refusal) → OneOf others (tagOf the-type f) → valuesOf f ≡ []
-plain TextTooLong k = refl
-plain TableRoom k = refl
-plain (UnknownByte q) k = refl
-plain (WrongByte q) k = refl
-plain (NameTooLong q) k = refl
-plain (TooDeep q) k = refl
-plain (TooManySlots q) k = refl
-plain (TooManyNodes q) k = refl
-plain TableTooShort k = refl
-plain BadCounts k = refl
-plain BadNodes k = refl
-plain BadNames k = refl
-plain BadOrder k = refl
-plain TooLarge k = refl
-plain WrittenTooLong k = refl
-plain TextRoom k = refl
-plain ChildrenTooLong k = refl
-plain (ChildByte q) k = refl
-plain (ChildTooLong q) k = refl
-plain (Clashing p x y) k = absurd (miss others 19 tt k)
-plain SlotRoom k = refl
-plain NoSuchSlot k = refl
-
-pub plain-figures : (f : Refusal) (n q : ℕ) → OneOf others (tagOf the-type f) → n ≡ numberOf f → q ≡ placeOf f → record { number = n; a = q; b = 0; c = 0 } ≡ figuresOf f
-plain-figures f n q k e h = rw (e, h, plain f k)

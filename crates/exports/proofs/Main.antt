@@ -13,10 +13,10 @@ use Rattle.verdict.specs.Verdicts.{JudgeAnswer, verdictFigures}
 use Rattle.verdict.proofs.Main.{judge-unique}
 use Rattle.matching.specs.Matches.{MatchAnswer, matchedFigures}
 use Rattle.matching.specs.Steps.{StepAnswer, steppedFigures}
-use Rattle.matching.specs.Parts.{PartWhere}
+use Rattle.matching.specs.Parts.{PartWhere, partFigures}
 use Rattle.matching.proofs.Unique.{match-unique, step-answer-unique}
 use Rattle.matching.proofs.PartUnique.{part-unique}
-use Rattle.exports.specs.Codes.{packed, partFigures}
+use Rattle.exports.specs.Codes.{packed}
 use Rattle.exports.specs.Told.{Told}
 use Rattle.model.specs.declared.Figures.{Figures}
 use Rattle.exports.specs.Inner.Fitting.{Fits}

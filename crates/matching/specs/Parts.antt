@@ -7,6 +7,8 @@ use lib.ListN.{length, getD, take, drop}
 use lib.Dec.{eqb}
 use denote.Ref.{RefT, ptr, now}
 use Rattle.model.specs.Limits.{childrenLimit}
+use Rattle.model.specs.Figures.{figures}
+use Rattle.model.specs.declared.Figures.{Figures}
 use Rattle.model.specs.declared.Slot.{Slot}
 use Rattle.model.specs.declared.Refusal.{Refusal}
 use Rattle.meaning.specs.Trees.{Tree, nodes}
@@ -46,6 +48,12 @@ nameStart t i = 4 + 2 * nodes t + sizes i (names t) + 1
 -- the name number of a slot
 abbrev pub numberAt : Tree Bytes → ℕ → ℕ
 numberAt t s = index sameBytes (named t s) (names t)
+
+-- in figures: 0 a part of the children, 1 of the table, with its start and its length; 2 the empty part at the children's end
+abbrev pub partFigures : Part → Figures
+partFigures (OfChildren a e) = figures 0 a (e - a) 0
+partFigures (OfTable a e) = figures 1 a (e - a) 0
+partFigures AtEnd = figures 2 0 0 0
 
 -- where the name part is, by the answer that matching gives where its room is large enough
 pub data PartWhere (table children : Bytes) : Part → Type 0 where

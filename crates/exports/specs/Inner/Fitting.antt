@@ -1,7 +1,5 @@
 -- Figures that fit their bits. Assumes nothing.
-use Prim.Native.Nat.{_≤_, _<_, _^_}
-use Rattle.matching.specs.declared.Part.{Part}
-use Rattle.matching.specs.declared.Part.the-variants.{OfChildren, OfTable, AtEnd}
+use Prim.Native.Nat.{_<_, _^_}
 use Rattle.model.specs.declared.Figures.{Figures}
 
 -- a number of 8 bits, a of 24, b and c of 16
@@ -10,9 +8,3 @@ pub record Fits (f : Figures) : Type 0 where
   pub a-fits : f .a < 2 ^ 24
   pub b-fits : f .b < 2 ^ 16
   pub c-fits : f .c < 2 ^ 16
-
--- a part ends behind its start
-abbrev pub Forward : Part → Type 0
-Forward (OfChildren a e) = a ≤ e
-Forward (OfTable a e) = a ≤ e
-Forward AtEnd = Unit {0}

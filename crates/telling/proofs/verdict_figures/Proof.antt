@@ -1,9 +1,9 @@
--- `exports::verdict_figures` meets its contract. Assumes nothing.
+-- `telling::verdict_figures` meets its contract. Assumes nothing.
 use mathlib.Core.Path.{sym, ap, _∙_}
 use Rattle.verdict.specs.Verdicts.{verdictFigures}
 use borrow.Author.Needs.{needs}
-use Rattle.exports.proofs.verdict_figures.Statement.{statement}
-use Rattle.exports.proofs.verdict_figures.Tie as tie
+use Rattle.telling.proofs.verdict_figures.Statement.{statement}
+use Rattle.telling.proofs.verdict_figures.Tie as tie
 
 enum-told : tie.Need-enum-told
 enum-told c = search needs

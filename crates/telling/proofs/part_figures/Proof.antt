@@ -1,10 +1,10 @@
--- `exports::part_figures` meets its contract. Assumes nothing.
+-- `telling::part_figures` meets its contract. Assumes nothing.
 use mathlib.Core.Path.{sym, ap, subst, _∙_}
-use Rattle.exports.specs.Codes.{partFigures}
-use Rattle.exports.specs.Inner.Fitting.{Forward}
+use Rattle.matching.specs.Parts.{partFigures}
+use Rattle.telling.specs.Inner.Forward.{Forward}
 use borrow.Author.Needs.{needs}
-use Rattle.exports.proofs.part_figures.Statement.{statement}
-use Rattle.exports.proofs.part_figures.Tie as tie
+use Rattle.telling.proofs.part_figures.Statement.{statement}
+use Rattle.telling.proofs.part_figures.Tie as tie
 
 enum-known-r : tie.Need-enum-known-r
 enum-known-r c = search needs

@@ -1,9 +1,9 @@
--- `exports::stepped_figures` meets its contract. Assumes nothing.
+-- `telling::stepped_figures` meets its contract. Assumes nothing.
 use mathlib.Core.Path.{sym, ap, _∙_}
 use Rattle.matching.specs.Steps.{steppedFigures}
 use borrow.Author.Needs.{needs}
-use Rattle.exports.proofs.stepped_figures.Statement.{statement}
-use Rattle.exports.proofs.stepped_figures.Tie as tie
+use Rattle.telling.proofs.stepped_figures.Statement.{statement}
+use Rattle.telling.proofs.stepped_figures.Tie as tie
 
 enum-known-r : tie.Need-enum-known-r
 enum-known-r c = search needs

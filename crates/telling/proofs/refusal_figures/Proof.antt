@@ -1,10 +1,10 @@
--- `exports::refusal_figures` meets its contract. Assumes nothing.
+-- `telling::refusal_figures` meets its contract. Assumes nothing.
 use mathlib.Core.Path.{sym, ap, _∙_}
 use Rattle.model.specs.Refusals.{figuresOf}
-use Rattle.exports.proofs.Fitting.{plain-figures}
+use Rattle.telling.proofs.Plain.{plain-figures}
 use borrow.Author.Needs.{needs}
-use Rattle.exports.proofs.refusal_figures.Statement.{statement}
-use Rattle.exports.proofs.refusal_figures.Tie as tie
+use Rattle.telling.proofs.refusal_figures.Statement.{statement}
+use Rattle.telling.proofs.refusal_figures.Tie as tie
 
 enum-known-f : tie.Need-enum-known-f
 enum-known-f c = search needs

@@ -1,9 +1,9 @@
--- `exports::outcome_figures` meets its contract. Assumes nothing.
+-- `telling::outcome_figures` meets its contract. Assumes nothing.
 use mathlib.Core.Path.{sym, ap, _∙_}
 use Rattle.reading.specs.Reads.{outcomeFigures}
 use borrow.Author.Needs.{needs}
-use Rattle.exports.proofs.outcome_figures.Statement.{statement}
-use Rattle.exports.proofs.outcome_figures.Tie as tie
+use Rattle.telling.proofs.outcome_figures.Statement.{statement}
+use Rattle.telling.proofs.outcome_figures.Tie as tie
 
 enum-known-r : tie.Need-enum-known-r
 enum-known-r c = search needs

@@ -1,9 +1,9 @@
--- `exports::matched_figures` meets its contract. Assumes nothing.
+-- `telling::matched_figures` meets its contract. Assumes nothing.
 use mathlib.Core.Path.{sym, ap, _∙_}
 use Rattle.matching.specs.Matches.{matchedFigures}
 use borrow.Author.Needs.{needs}
-use Rattle.exports.proofs.matched_figures.Statement.{statement}
-use Rattle.exports.proofs.matched_figures.Tie as tie
+use Rattle.telling.proofs.matched_figures.Statement.{statement}
+use Rattle.telling.proofs.matched_figures.Tie as tie
 
 enum-known-r : tie.Need-enum-known-r
 enum-known-r c = search needs

@@ -1,0 +1,9 @@
+-- Parts that end behind their start. Assumes nothing.
+use Prim.Native.Nat.{_≤_}
+use Rattle.matching.specs.declared.Part.{Part}
+use Rattle.matching.specs.declared.Part.the-variants.{OfChildren, OfTable, AtEnd}
+
+abbrev pub Forward : Part → Type 0
+Forward (OfChildren a e) = a ≤ e
+Forward (OfTable a e) = a ≤ e
+Forward AtEnd = Unit {0}
