@@ -1,5 +1,5 @@
-//! Links the proved library's archive, libexports.a, into the program; its folder is SLOTS_LIB_DIR, or where
-//! `rt staticlib exports` writes it. With the feature `mock` there is nothing to link.
+//! Links the proved library's archive, libexports.a, into the program `compare`; its folder is SLOTS_LIB_DIR, or where
+//! `rt staticlib exports` writes it. With the feature `mock` there is nothing to link, and nothing for `second`.
 
 use std::env;
 use std::path::PathBuf;
@@ -13,5 +13,5 @@ fn main() {
     let folder = env::var_os("SLOTS_LIB_DIR").map_or(here.join("../target/staticlib"), PathBuf::from);
     let archive = folder.join("libexports.a");
     println!("cargo:rerun-if-changed={}", archive.display());
-    println!("cargo:rustc-link-arg-bins={}", archive.display());
+    println!("cargo:rustc-link-arg-bin=compare={}", archive.display());
 }

@@ -122,7 +122,8 @@ fn steps(ask: &mut Questions, table: &Table) -> Result<(), Difference> {
     }
 }
 
-/// Standard input for the program `slots`: a model, mostly without line feeds, then mostly a line feed and child text.
+/// Standard input for the program `slots`: a model, mostly without line feeds, then mostly a line feed and child text; now
+/// and then more than the program has to read.
 pub fn program_input(seed: u64, case: u64) -> Vec<u8> {
     let mut chance = Chance::of_case(seed, case);
     let mut input = if chance.once_in(2) {
@@ -142,6 +143,10 @@ pub fn program_input(seed: u64, case: u64) -> Vec<u8> {
     let table = Table::new(&read);
     if let Ok(checked) = &table.checked {
         input.extend(generate::children(&mut chance, &checked.states, &names(checked, &table)));
+    }
+    if chance.once_in(50) {
+        // More than the program has to read.
+        input.extend(vec![chance.pick(b" a\n#"); chance.pick(&[17_000, 21_000, 65_536, 70_000, 200_000])]);
     }
     input
 }

@@ -5,13 +5,14 @@ use super::chance::Chance;
 /// Guard bytes before and after each slice.
 const GUARD: usize = 64;
 
-/// Bytes of chance that rooms and guards are filled from.
+/// Bytes of chance that rooms and guards are filled from: more than any slice has, which is a table damaged three times,
+/// each time by 65,536 bytes left over.
 pub struct Pattern(Vec<u8>);
 
 impl Pattern {
     pub fn new(seed: u64) -> Pattern {
         let mut chance = Chance::of_case(seed, u64::MAX);
-        Pattern((0..1 << 17).map(|_| chance.byte()).collect())
+        Pattern((0..1 << 18).map(|_| chance.byte()).collect())
     }
 
     fn some(&self, chance: &mut Chance, length: usize) -> &[u8] {

@@ -21,9 +21,9 @@ pub fn limit_tree(chance: &mut Chance) -> Tree {
     let near = |chance: &mut Chance, limit: usize| limit + chance.below(4) - 1;
     let choice = chance.once_in(2);
     let mark = mark(chance);
-    match chance.below(9) {
+    match chance.below(13) {
         // A name of 63 to 66 bytes among others.
-        0 => {
+        0 | 1 => {
             let length = chance.within(limits::NAME - 1, limits::NAME + 2);
             let long = leaf(name_of(chance, length), mark);
             let mut tree = any_tree(chance);
@@ -37,7 +37,7 @@ pub fn limit_tree(chance: &mut Chance) -> Tree {
             tree
         }
         // 31 to 34 nested groups, with other groups before them, so that depth and number differ.
-        1 => {
+        2 | 3 => {
             let groups = near(chance, limits::GROUPS);
             let inner = leaf(name(chance), mark);
             let before = chance.below(3);
@@ -46,7 +46,7 @@ pub fn limit_tree(chance: &mut Chance) -> Tree {
             group(members, choice, mark)
         }
         // 127 to 130 slots, all names alike, a few names, or all distinct.
-        2 => {
+        4 | 5 => {
             let slots = near(chance, limits::SLOTS);
             let names = chance.pick(&[1, 8, slots]);
             let named = |slot: usize| format!("n{}", slot % names).into_bytes();
@@ -54,18 +54,18 @@ pub fn limit_tree(chance: &mut Chance) -> Tree {
             group(members, choice, mark)
         }
         // 511 to 514 nodes.
-        3 => {
+        6 | 7 => {
             let nodes = near(chance, limits::NODES);
             nodes_tree(chance, nodes, 127)
         }
         // The 129th slot is the 513th node: a tie of 7 and 8, or nearly.
-        4 => {
+        8 => {
             let tie = (limits::NODES + 1, limits::SLOTS + 1);
             let (nodes, slots) = if chance.once_in(2) { tie } else { (near(chance, tie.0), near(chance, tie.1)) };
             nodes_tree(chance, nodes, slots)
         }
         // The 33rd open group is the 513th node, or nearly.
-        5 => {
+        9 | 10 => {
             let tie = limits::NODES + 1 - limits::GROUPS;
             let before = if chance.once_in(2) { tie } else { near(chance, tie) };
             let Tree { body, mark } = nodes_tree(chance, before, 120);

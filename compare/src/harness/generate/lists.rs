@@ -15,8 +15,10 @@ pub fn children(chance: &mut Chance, states: &States, names: &[Vec<u8>]) -> Vec<
     let white = chance.pick(&[1, 1, 1, 3]);
     let gap =
         |chance: &mut Chance| -> Vec<u8> { (0..chance.within(1, white)).map(|_| chance.pick(b" \t\n")).collect() };
+    // Now and then about 16,384 bytes: by as many children as that takes, or by white space.
     let long = chance.once_in(200);
-    let goal = if long { limits::CHILDREN + chance.below(4) - 1 } else { 0 };
+    let padded = !long && chance.once_in(25);
+    let goal = if long || padded { limits::CHILDREN + chance.below(4) - 1 } else { 0 };
     let most = if long { usize::MAX } else { chance.pick(&[0, 1, 2, 4, 8, 16, 40, 140]) };
     let mut text = if chance.once_in(4) { gap(chance) } else { Vec::new() };
     let (mut state, mut count) = (0, 0);
@@ -42,10 +44,10 @@ pub fn children(chance: &mut Chance, states: &States, names: &[Vec<u8>]) -> Vec<
         }
     }
     damage_children(chance, names, &mut text);
-    while text.len() < goal {
-        text.push(b' ');
-    }
-    if long && chance.once_in(2) {
+    let at = if padded { chance.below(text.len() + 1) } else { text.len() };
+    let white = vec![chance.pick(b" \t\n"); goal.saturating_sub(text.len())];
+    text.splice(at..at, white);
+    if goal > 0 && chance.once_in(2) {
         let at = text.len() - chance.within(1, 100);
         text[at] = chance.pick(b"#0-a\x80");
     }

@@ -135,7 +135,7 @@ pub fn table(chance: &mut Chance) -> Vec<u8> {
     }
     let tree = match chance.below(40) {
         0 => limit_tree(chance),
-        1 | 2 => unlawful_tree(chance),
+        1..=3 => unlawful_tree(chance),
         _ => any_tree(chance),
     };
     let mut fields = Fields::of(&tree);

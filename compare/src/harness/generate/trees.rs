@@ -6,12 +6,19 @@ use crate::second::tree::{Body, Mark, Tree, MARKS};
 
 use super::extremes::wide_tree;
 
-const STARTS: &[u8] = b"abcxyzABZ_:";
-const LATER: &[u8] = b"abcxyzABZ_:019-.";
+/// The bytes that start a name, and those that stand later in one: a few that are picked often, so that names meet, and
+/// the others.
+const STARTS: [&[u8]; 2] = [b"abcxyzABZ_:", b"defghijklmnopqrstuvwCDEFGHIJKLMNOPQRSTUVWXY"];
+const LATER: [&[u8]; 2] = [b"abcxyzABZ_:019-.", b"defghijklmnopqrstuvwCDEFGHIJKLMNOPQRSTUVWXY2345678"];
 
 /// A lawful name of this length.
 pub fn name_of(chance: &mut Chance, length: usize) -> Vec<u8> {
-    (0..length).map(|at| chance.pick(if at == 0 { STARTS } else { LATER })).collect()
+    let byte = |at: usize| {
+        let bytes = if at == 0 { STARTS } else { LATER };
+        let other = chance.once_in(16) as usize;
+        chance.pick(bytes[other])
+    };
+    (0..length).map(byte).collect()
 }
 
 /// A name: mostly short, so that names are often equal or begin one another.
