@@ -3,6 +3,7 @@ ghost use mathlib.Core.Path.{_≡_};
 ghost use Prim.Native.Nat.{_<_};
 ghost use Rattle.model.specs.Codes.{kindNumber, markNumber};
 ghost use Rattle.table.specs.Inner.Draft.{word, values, kindOf, markOf, valueOf, asKind, asMark, nodeOf};
+ghost use Rattle.draft.specs.Inner.Kinds.{isName};
 use model::Kind;
 use model::Mark;
 use model::Node;
@@ -67,6 +68,17 @@ pub fn node_of(w: u32) -> Node
         kind: as_kind(kind_of(w)),
         mark: as_mark(mark_of(w)),
         value: value_of(w) as u16,
+    }
+}
+
+// Is a node of this kind a name?
+pub fn is_name(k: Kind) -> bool
+    ensures { λ r. ⌜ r ≡ isName k ⌝ }
+{
+    match k {
+        Kind::Name => true,
+        Kind::Sequence => false,
+        Kind::Choice => false,
     }
 }
 

@@ -33,7 +33,7 @@ use Rattle.writer.specs.declared.Counted.the-variants.{Counts, Refused as Uncou
 use Rattle.verdict.specs.Verdicts.{JudgeAnswer, verdictFigures}
 use Rattle.verdict.specs.declared.Verdict.{Verdict}
 use Rattle.verdict.specs.declared.Verdict.the-variants.{Deterministic, Ambiguous, Refused as Unjudged}
-use Rattle.matching.specs.Passed.{NotPassed, refused, ambiguous}
+use Rattle.placing.specs.Passed.{NotPassed, refused, ambiguous}
 use Rattle.matching.specs.Matches.{Answers, MatchRefused, by-model, by-room, by-children, Placed, MatchAnswer}
 use Rattle.matching.specs.Steps.{StepRefused, by-slot, From, StepAnswer, steppedFigures}
 use Rattle.matching.specs.Steps

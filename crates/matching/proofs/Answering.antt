@@ -27,22 +27,14 @@ use Rattle.children.specs.declared.Checked.{Checked}
 use Rattle.children.specs.declared.Checked.the-variants.{Fine, Refused as BadText}
 use Rattle.children.proofs.Judging.{words-fine}
 use Rattle.children.proofs.Placing.{words-few}
-use Rattle.slotset.specs.Members.{member}
-use Rattle.verdict.specs.Inner.Search.{stop}
-use Rattle.matching.specs.Passed.{Passed}
+use Rattle.placing.specs.Passed.{Passed}
+use Rattle.placing.specs.Inner.Walking.{Placing, EndsAt, Walked}
+use Rattle.placing.specs.declared.Walk.{Walk}
+use Rattle.placing.proofs.Going.{laid-all}
 use Rattle.matching.specs.Matches.{Says, Answers, Placed, MatchAnswer}
-use Rattle.matching.specs.Inner.Walking.{laid, Placing, EndsAt, Walked, answerOf, answerBy, endOf}
-use Rattle.matching.specs.declared.Walk.{Walk}
+use Rattle.matching.specs.Inner.Answering.{answerOf, answerBy, endOf}
 use Rattle.matching.specs.declared.Matched.{Matched}
 use Rattle.matching.specs.declared.Matched.the-variants.{Allowed as IsAllowed, Stopped, Short, Refused as Stop}
-use Rattle.matching.proofs.Going.{laid-all}
-
-pub stop-start : (empty : Bool) (last : List ℕ) (s : ℕ) → s ≡ 0 → stop empty last s ≡ empty
-stop-start empty last s e = ap (stop empty last) e
-
-pub stop-slot : (empty : Bool) (last : List ℕ) (s : ℕ) → (s ≡ 0 → ⊥) → stop empty last s ≡ member last s
-stop-slot empty last zero e = absurd (e refl)
-stop-slot empty last (suc s) e = refl
 
 -- ---- the three answers on a walk
 pub answer-stopped : (b : Bool) (w : Walk) → w .all ≡ false → answerOf b w ≡ Stopped (w .placed + 1) (w .held)

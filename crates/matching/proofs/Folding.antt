@@ -15,10 +15,10 @@ use Rattle.meaning.proofs.Clashes.{goes-within, next-goes}
 use Rattle.meaning.proofs.Runs.{run-held, held-unique}
 use Rattle.meaning.proofs.Main.{run-begins}
 use Rattle.names.specs.Bytes.{Bytes}
-use Rattle.matching.specs.Passed.{Passed}
+use Rattle.placing.specs.Passed.{Passed}
 use Rattle.matching.specs.Steps.{From, Steps, done, step}
 use Rattle.matching.specs.declared.Stepped.the-variants.{Next}
-use Rattle.matching.proofs.Unique.{passed-unique}
+use Rattle.placing.proofs.Main.{passed-unique}
 
 slot : ℕ → Slot
 slot n = record { 0 = n }

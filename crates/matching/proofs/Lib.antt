@@ -1,10 +1,6 @@
--- One answer only; and a whole list equals its steps.
+-- One answer only; a whole list equals its steps; and from a walk to the answers.
 pub mod Unique
 pub mod Folding
-pub mod Finding
-pub mod Going
-pub mod Preparing
 pub mod Answering
-pub mod Naming
 pub mod Parting
 pub mod PartUnique

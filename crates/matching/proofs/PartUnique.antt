@@ -4,7 +4,7 @@ use mathlib.Core.Path.{_≡_, refl, sym, ap, ap₂, subst, _∙_}
 use Prim.Native.Nat.{ℕ, zero, suc, _+_, _-_, _≤_, _<_}
 use native.Mathlib.Omega.{arith}
 use lib.ListN.{length, getD, take, drop}
-use denote.Ref.{RefT, ptr, now}
+use denote.Ref.{RefT, now}
 use Rattle.model.specs.declared.Slot.{Slot}
 use Rattle.model.specs.declared.Refusal.{Refusal}
 use Rattle.meaning.specs.Trees.{Tree}
@@ -12,19 +12,26 @@ use Rattle.meaning.specs.Slots.{named}
 use Rattle.names.specs.Bytes.{Bytes}
 use Rattle.names.specs.Names.{Each, Name}
 use Rattle.children.specs.Words.{Words}
+use Rattle.children.specs.Places.{ChildAt}
 use Rattle.children.specs.Faults.{Refused}
 use Rattle.children.proofs.Main.{words-unique, words-not-refused}
 use Rattle.children.proofs.Placing.{place-unique, words-names}
 use Rattle.table.proofs.Numbering.{each-at}
-use Rattle.matching.specs.Passed.{Passed, NotPassed}
+use Rattle.naming.specs.Places.{nameStart, numberAt}
+use Rattle.naming.proofs.Main.{SamePart, part-same}
+use Rattle.placing.specs.Passed.{Passed, NotPassed}
+use Rattle.placing.proofs.Main.{passed-unique, passed-free}
 use Rattle.matching.specs.Matches.{Says, Answers}
-use Rattle.matching.specs.Parts.{IsPart, ChildAt, nameStart, numberAt, PartWhere, refused, bad-children, allowed, stopped, short, short-at-start, Is, PartAnswer}
-use Rattle.matching.specs.Inner.Walking.{slotPart}
+use Rattle.matching.specs.Parts.{PartWhere, refused, bad-children, allowed, stopped, short, short-at-start, Is, PartAnswer}
 use Rattle.matching.specs.declared.Matched.{Matched}
 use Rattle.matching.specs.declared.Matched.the-variants.{Allowed, Stopped, Short, Refused as Stop}
 use Rattle.matching.specs.declared.Part.{Part}
 use Rattle.matching.specs.declared.Part.the-variants.{OfChildren, OfTable, AtEnd}
-use Rattle.matching.proofs.Unique.{passed-unique, passed-free, answers-unique}
+use Rattle.matching.proofs.Unique.{answers-unique}
+
+-- the part of the table that is the name of slot s
+abbrev slotPart : Tree Bytes → ℕ → Part
+slotPart t s = OfTable (nameStart t (numberAt t s)) (nameStart t (numberAt t s) + length (named t s))
 
 -- the part that an answer on a model and its children has
 abbrev Here : Bytes → Tree Bytes → List Bytes → Matched → Part → Type 0
@@ -85,14 +92,6 @@ module _ (table children : Bytes) where
   part-unique p q h k = view-unique p q (view h) (view k)
 
 -- and so are the bytes, the block and the offset
-pub record SamePart (r s : RefT (List ℕ)) : Type 0 where
-  pub bytes : now r ≡ now s
-  pub block : ptr r .0 ≡ ptr s .0
-  pub offset : ptr r .1 ≡ ptr s .1
-
-part-same : (s r q : RefT (List ℕ)) (a e : ℕ) → IsPart s a e r → IsPart s a e q → SamePart r q
-part-same s r q a e h k = record { bytes = h .bytes ∙ sym (k .bytes); block = h .block ∙ sym (k .block); offset = h .offset ∙ sym (k .offset) }
-
 is-same : (p : Part) (table children r q : RefT (List ℕ)) → Is p table children r → Is p table children q → SamePart r q
 is-same (OfChildren a e) table children r q h k = part-same children r q a e h k
 is-same (OfTable a e) table children r q h k = part-same table r q a e h k

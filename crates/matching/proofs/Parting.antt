@@ -13,17 +13,20 @@ use Rattle.meaning.specs.Inner.Expressions.{slotted, ends}
 use Rattle.names.specs.Bytes.{Bytes}
 use Rattle.children.specs.Words.{Words}
 use Rattle.children.specs.Inner.Splitting.{cut}
-use Rattle.matching.specs.Passed.{Passed}
+use Rattle.naming.specs.Inner.Spans.{SpanOf}
+use Rattle.naming.specs.declared.Span.{Span}
+use Rattle.naming.proofs.Places.{slot-within}
+use Rattle.placing.specs.Passed.{Passed}
+use Rattle.placing.specs.Inner.Walking.{Walked, EndsAt}
+use Rattle.placing.specs.declared.Walk.{Walk}
 use Rattle.matching.specs.Matches.{Says, Answers}
-use Rattle.matching.specs.Parts.{ChildAt, nameStart, numberAt, PartWhere, refused, bad-children, allowed, stopped, short, short-at-start}
-use Rattle.matching.specs.Inner.Walking.{Walked, EndsAt, answerOf, SlotNamed, slotPart}
-use Rattle.matching.specs.declared.Walk.{Walk}
+use Rattle.matching.specs.Parts.{PartWhere, refused, bad-children, allowed, stopped, short, short-at-start}
+use Rattle.matching.specs.Inner.Answering.{answerOf}
 use Rattle.matching.specs.declared.Matched.{Matched}
 use Rattle.matching.specs.declared.Matched.the-variants.{Allowed as IsAllowed, Stopped, Short}
 use Rattle.matching.specs.declared.Part.{Part}
 use Rattle.matching.specs.declared.Part.the-variants.{OfChildren, OfTable, AtEnd}
 use Rattle.matching.proofs.Answering.{walked-says, answer-stopped, answer-allowed, answer-short}
-use Rattle.matching.proofs.Naming.{slot-within}
 
 module _ (table children before : List ℕ) (t : Tree Bytes) (passed : Passed table t) (fits : length children ≤ childrenLimit) (words : Words children (cut [] children)) (w : Walk) (after : List ℕ) (walked : Walked t children before w after) (b : Bool) (right : b ≡ ends (slotted t) (w .held .0)) where
   -- the answer on the walk, under another name
@@ -49,9 +52,11 @@ module _ (table children before : List ℕ) (t : Tree Bytes) (passed : Passed ta
   pub part-start : w .all ≡ true → b ≡ false → w .held .0 ≡ 0 → PartWhere table children AtEnd
   part-start e f z = short-at-start (answered (Short (w .placed) (w .held)) (answer-short b w e f)) z
 
-  pub part-short : w .all ≡ true → b ≡ false → 1 ≤ w .held .0 → PartWhere table children (slotPart t (w .held .0))
+  pub part-short : w .all ≡ true → b ≡ false → 1 ≤ w .held .0 → (r : Span) → SpanOf t (w .held .0) r → PartWhere table children (OfTable (r .start) (r .end))
   unfolding answered
-  part-short e f z = short (answered (Short (w .placed) (w .held)) (answer-short b w e f)) z refl
+  part-short e f z r i =
+      subst (λ k. PartWhere table children (OfTable (r .start) k)) (sym (i .end))
+      (short (answered (Short (w .placed) (w .held)) (answer-short b w e f)) z (i .start))
 
 -- ---- the part lies within what was lent
 Within : Bytes → Bytes → Part → Type 0

@@ -9,20 +9,18 @@ use lib.Seq.{take-take}
 use Rattle.model.specs.Limits.{slotRoom}
 use Rattle.model.specs.declared.Slot.{Slot}
 use Rattle.model.specs.declared.Refusal.{Refusal}
-use Rattle.model.specs.declared.Refusal.the-variants.{Ambiguous as Clashing, SlotRoom, NoSuchSlot}
+use Rattle.model.specs.declared.Refusal.the-variants.{SlotRoom, NoSuchSlot}
 use Rattle.meaning.specs.Trees.{Tree, leaves}
 use Rattle.meaning.specs.Lists.{Allowed, Begins}
 use Rattle.meaning.specs.Slots.{Numbered, named}
-use Rattle.meaning.specs.Clashes.{ending, Ambiguous, FirstClash}
+use Rattle.meaning.specs.Clashes.{ending, Ambiguous}
 use Rattle.meaning.specs.Runs.{Marks, Held, Step}
-use Rattle.meaning.proofs.Main.{ambiguous-clash, first-clash-unique}
 use Rattle.meaning.proofs.Runs.{held-begins, marks-unique, step-unique}
 use Rattle.names.specs.Bytes.{Bytes}
 use Rattle.children.specs.Words.{Words}
 use Rattle.children.proofs.Main.{words-unique, words-not-refused, refused-unique as children-unique}
-use Rattle.table.specs.Models.{Loads}
-use Rattle.table.proofs.Main.{loads-unique, loads-free, refused-unique}
-use Rattle.matching.specs.Passed.{Passed, NotPassed, refused, ambiguous}
+use Rattle.placing.specs.Passed.{Passed, NotPassed}
+use Rattle.placing.proofs.Main.{slot-unique, passed-unique, passed-free, not-passed-unique}
 use Rattle.matching.specs.Matches.{Says, Answers, MatchRefused, by-model, by-room, by-children, Placed, MatchAnswer}
 use Rattle.matching.specs.Steps.{StepRefused, by-slot, From, StepAnswer}
 use Rattle.matching.specs.Steps
@@ -30,35 +28,6 @@ use Rattle.matching.specs.declared.Matched.{Matched}
 use Rattle.matching.specs.declared.Matched.the-variants.{Allowed as IsAllowed, Stopped, Short, Refused as Stop}
 use Rattle.matching.specs.declared.Stepped.{Stepped}
 use Rattle.matching.specs.declared.Stepped.the-variants.{Next, Nowhere, Refused as Refuse}
-
-slot : ℕ → Slot
-slot n = record { 0 = n }
-
-slot-unique : (s r : Slot) → s .0 ≡ r .0 → s ≡ r
-unfolding slot
-slot-unique s r e = ap slot e
-
--- ---- a table has one passed model, or one refusal, and never both
-pub passed-unique : (table : Bytes) (t u : Tree Bytes) → Passed table t → Passed table u → t ≡ u
-passed-unique table t u p q = loads-unique table t u (p .loads) (q .loads)
-
-clash-ambiguous : (t : Tree Bytes) (p x y : ℕ) → FirstClash t p x y → Ambiguous t
-clash-ambiguous t p x y c = ambiguous-clash t .1 (p, x, y, c .clash)
-
-pub passed-free : (table : Bytes) (t : Tree Bytes) {f : Refusal} → Passed table t → NotPassed table f → ⊥
-passed-free table t p (refused r) = loads-free table t (p .loads) _ r
-passed-free table t p (ambiguous {p = a} {x = x} {y = y} u l c) = p .clear (clash-ambiguous t (a .0) (x .0) (y .0) (subst (λ v. FirstClash v (a .0) (x .0) (y .0)) (loads-unique table u t l (p .loads)) c))
-
-pub not-passed-unique : (table : Bytes) {f g : Refusal} → NotPassed table f → NotPassed table g → f ≡ g
-not-passed-unique table (refused r) (refused s) = refused-unique table _ _ r s
-not-passed-unique table (refused r) (ambiguous u l c) = absurd (loads-free table u l _ r)
-not-passed-unique table (ambiguous u l c) (refused s) = absurd (loads-free table u l _ s)
-not-passed-unique table (ambiguous {p = a} {x = x} {y = y} t l c) (ambiguous {p = b} {x = v} {y = w} u m d) =
-    let e = first-clash-unique t (a .0) (x .0) (y .0) (b .0) (v .0) (w .0) c (subst (λ z. FirstClash z (b .0) (v .0) (w .0)) (loads-unique table u t m l) d) in
-    let i = slot-unique a b (e .0) in
-    let j = slot-unique x v (e .1) in
-    let k = slot-unique y w (e .2) in
-    ap (λ z. Clashing z x y) i ∙ ap (λ z. Clashing b z y) j ∙ ap (λ z. Clashing b v z) k
 
 -- ---- the answer on a model
 module _ (t : Tree Bytes) where

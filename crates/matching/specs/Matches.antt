@@ -17,7 +17,7 @@ use Rattle.meaning.specs.Runs.{Marks}
 use Rattle.names.specs.Bytes.{Bytes}
 use Rattle.children.specs.Words.{Words}
 use Rattle.children.specs.Faults.{Refused}
-use Rattle.matching.specs.Passed.{Passed, NotPassed}
+use Rattle.placing.specs.Passed.{Passed, NotPassed}
 use Rattle.matching.specs.declared.Matched.{Matched}
 use Rattle.matching.specs.declared.Matched.the-variants.{Allowed as IsAllowed, Stopped, Short, Refused as Stop}
 

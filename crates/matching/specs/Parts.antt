@@ -1,53 +1,24 @@
 -- The name part: which part of what was lent is returned (document 01, "Child lists"). Assumes nothing.
-use mathlib.Core.Bool.{true}
-use mathlib.Core.List.{List, [], _∷_, _++_}
+use mathlib.Core.List.{List}
 use mathlib.Core.Path.{_≡_}
-use Prim.Native.Nat.{ℕ, zero, suc, _+_, _*_, _-_, _≤_}
-use lib.ListN.{length, getD, take, drop}
-use lib.Dec.{eqb}
-use denote.Ref.{RefT, ptr, now}
-use Rattle.model.specs.Limits.{childrenLimit}
+use Prim.Native.Nat.{ℕ, _+_, _-_, _≤_}
+use lib.ListN.{length}
+use denote.Ref.{RefT, now}
 use Rattle.model.specs.Figures.{figures}
 use Rattle.model.specs.declared.Figures.{Figures}
 use Rattle.model.specs.declared.Slot.{Slot}
 use Rattle.model.specs.declared.Refusal.{Refusal}
-use Rattle.meaning.specs.Trees.{Tree, nodes}
+use Rattle.meaning.specs.Trees.{Tree}
 use Rattle.meaning.specs.Slots.{named}
 use Rattle.names.specs.Bytes.{Bytes}
-use Rattle.children.specs.Words.{Words}
+use Rattle.children.specs.Places.{ChildAt}
 use Rattle.children.specs.Faults.{Refused}
-use Rattle.table.specs.Encoding.{sameBytes, index, names}
-use Rattle.matching.specs.Passed.{Passed, NotPassed}
+use Rattle.naming.specs.Places.{IsPart, nameStart, numberAt}
+use Rattle.placing.specs.Passed.{Passed, NotPassed}
 use Rattle.matching.specs.Matches.{Answers}
 use Rattle.matching.specs.declared.Matched.the-variants.{Allowed, Stopped, Short}
 use Rattle.matching.specs.declared.Part.{Part}
 use Rattle.matching.specs.declared.Part.the-variants.{OfChildren, OfTable, AtEnd}
-
--- r is the part of s from a to e: those bytes, in the same block, at that place
-pub record IsPart (s : RefT (List ℕ)) (a e : ℕ) (r : RefT (List ℕ)) : Type 0 where
-  pub bytes : now r ≡ take (e - a) (drop a (now s))
-  pub block : ptr r .0 ≡ ptr s .0
-  pub offset : ptr r .1 ≡ ptr s .1 + a
-
--- child k stands in the child text from a to e: from a on the text is child k and those after it
-pub record ChildAt (children : Bytes) (ws : List Bytes) (k a e : ℕ) : Type 0 where
-  pub onward : Words (drop a children) (drop (k - 1) ws)
-  pub here : take (e - a) (drop a children) ≡ getD ws (k - 1) []
-  pub order : a ≤ e
-  pub within : e ≤ length children
-
--- bytes of the table before the name with number i, and its length byte: the header, the nodes, and the names before it
-abbrev pub sizes : ℕ → List Bytes → ℕ
-sizes zero ns = 0
-sizes (suc i) [] = 0
-sizes (suc i) (n ∷ ns) = 1 + length n + sizes i ns
-
-abbrev pub nameStart : Tree Bytes → ℕ → ℕ
-nameStart t i = 4 + 2 * nodes t + sizes i (names t) + 1
-
--- the name number of a slot
-abbrev pub numberAt : Tree Bytes → ℕ → ℕ
-numberAt t s = index sameBytes (named t s) (names t)
 
 -- in figures: 0 a part of the children, 1 of the table, with its start and its length; 2 the empty part at the children's end
 abbrev pub partFigures : Part → Figures
@@ -66,10 +37,12 @@ pub data PartWhere (table children : Bytes) : Part → Type 0 where
       {k : ℕ} {s : Slot} {u : List ℕ} {a e : ℕ} (m : Answers table children (Stopped k s) u) →
       ChildAt children (m .names) k a e → PartWhere table children (OfChildren a e)
   -- "for short the held slot's name in the table, or the empty part at the child text's end if the slot is 0"
-  short-at-start : {n : ℕ} {s : Slot} {u : List ℕ} → Answers table children (Short n s) u → s .0 ≡ 0 → PartWhere table children AtEnd
+  short-at-start :
+      {n : ℕ} {s : Slot} {u : List ℕ} → Answers table children (Short n s) u → s .0 ≡ 0 → PartWhere table children AtEnd
   short :
       {n : ℕ} {s : Slot} {u : List ℕ} {a : ℕ} (m : Answers table children (Short n s) u) → 1 ≤ s .0 →
-      a ≡ nameStart (m .model) (numberAt (m .model) (s .0)) → PartWhere table children (OfTable a (a + length (named (m .model) (s .0))))
+      a ≡ nameStart (m .model) (numberAt (m .model) (s .0)) →
+      PartWhere table children (OfTable a (a + length (named (m .model) (s .0))))
 
 -- r is that part
 abbrev pub Is : Part → RefT (List ℕ) → RefT (List ℕ) → RefT (List ℕ) → Type 0

@@ -11,7 +11,7 @@ use Rattle.model.specs.declared.Refusal.the-variants.{NoSuchSlot}
 use Rattle.meaning.specs.Trees.{Tree, leaves}
 use Rattle.meaning.specs.Runs.{Step}
 use Rattle.names.specs.Bytes.{Bytes}
-use Rattle.matching.specs.Passed.{Passed, NotPassed}
+use Rattle.placing.specs.Passed.{Passed, NotPassed}
 use Rattle.matching.specs.declared.Stepped.{Stepped}
 use Rattle.matching.specs.declared.Stepped.the-variants.{Next, Nowhere, Refused as Stop}
 

@@ -3,9 +3,7 @@ ghost use Prim.Native.Nat.{_≤_};
 ghost use lib.ListN.{length};
 ghost use Rattle.slots.specs.Lines.{LineEnd};
 use libc::STDOUT_FILENO;
-use loader::Loaded;
 use matching::Matched;
-use model::Kind;
 use model::Model;
 use model::Refusal;
 use model::Slot;
@@ -30,63 +28,9 @@ fn put_refusal(f: Refusal) {
     put(b"\n");
 }
 
-// ---- the name of a slot
-fn wide(x: u16) -> usize {
-    x as usize
-}
-
-fn is_name(k: Kind) -> bool {
-    match k {
-        Kind::Name => true,
-        Kind::Sequence => false,
-        Kind::Choice => false,
-    }
-}
-
-// The name number of slot x: the value of the x-th name node.
-fn number_of(words: &[u32], x: Slot) -> usize {
-    let mut left = x.0;
-    let mut i = 0;
-    while i < words.len() {
-        let node = draft::node_of(words[i]);
-        i += 1;
-        let kind = node.kind;
-        if !is_name(kind) {
-            continue;
-        }
-        if left <= 1 {
-            return wide(node.value);
-        }
-        left -= 1;
-    }
-    0
-}
-
-// Prints the bytes from start on, so many.
-fn put_part(table: &[u8], start: usize, size: usize) {
-    if table.len() < start {
-        return;
-    }
-    if table.len() - start < size {
-        return;
-    }
-    let end = start + size;
-    put(&table[start..end]);
-}
-
 // Prints the name of slot x of a table's model.
 fn put_name(table: &[u8], x: Slot) {
-    let mut words = [0u32; Model::NODES];
-    let mut starts = [0u16; Model::NAMES];
-    let mut lengths = [0u16; Model::NAMES];
-    let loaded = loader::load(table, &mut words, &mut starts, &mut lengths);
-    if let Loaded::Refused(_) = loaded {
-        return;
-    }
-    let i = number_of(&words, x);
-    if i < Model::NAMES {
-        put_part(table, wide(starts[i]), wide(lengths[i]));
-    }
+    put(naming::slot_name(table, x));
 }
 
 // ---- the three lines

@@ -16,7 +16,8 @@ use Rattle.table.specs.Inner.Draft.{nodeOf}
 use Rattle.table.specs.Inner.Forest.{Stand, flat, members, sum}
 use Rattle.table.proofs.Standing.{stand-first, sum-leaves, sum-nodes}
 use Rattle.survey.specs.Inner.Fours.{Four, of, four, join4, add4, mark4, over4}
-use Rattle.survey.specs.Inner.Finding.{isName, isSequence, Stands, said, Tells, Found, Surveyed}
+use Rattle.draft.specs.Inner.Kinds.{isName}
+use Rattle.survey.specs.Inner.Finding.{isSequence, Stands, said, Tells, Found, Surveyed}
 use Rattle.survey.specs.declared.Survey.{Survey}
 use Rattle.survey.proofs.SaidOfPairs.{fours, join-assoc, join-none, add-over, add-same, mark-over, or-false}
 use Rattle.survey.proofs.Standing.{kind, mark, slot-sum, group-of, kind-at, mark-at, group-at, stand-behind}

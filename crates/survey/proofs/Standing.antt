@@ -16,7 +16,7 @@ use Rattle.table.specs.Inner.Forest.{Below, Sits, Stand, members, sum}
 use Rattle.table.proofs.Relabel.{size-nodes}
 use Rattle.table.proofs.Words.{kind-word, mark-word, count-size, some-word}
 use Rattle.table.proofs.Standing.{sits-within, sits-group, stand-next}
-use Rattle.survey.specs.Inner.Finding.{isName}
+use Rattle.draft.specs.Inner.Kinds.{isName}
 
 -- ---- the parts of a tree
 abbrev pub kind : Tree ℕ → Kind

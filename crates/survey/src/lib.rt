@@ -11,7 +11,7 @@ ghost use Rattle.meaning.specs.Trees.{Tree};
 ghost use Rattle.meaning.specs.Inner.Expressions.{skips as skips-of, repeats as repeats-of};
 ghost use Rattle.slotset.specs.Members.{squareBytes};
 ghost use Rattle.survey.specs.Inner.Fours.{mark4, add4};
-ghost use Rattle.survey.specs.Inner.Finding.{isName, isSequence, Stands, said, Tells, Found, Surveyed};
+ghost use Rattle.survey.specs.Inner.Finding.{isSequence, Stands, said, Tells, Found, Surveyed};
 
 // Of a node: where its words end, its next slot, whether the empty list is allowed, and which slots can stand first and last.
 pub struct Survey {
@@ -20,16 +20,6 @@ pub struct Survey {
     pub empty: bool,
     pub first: SlotSet,
     pub last: SlotSet,
-}
-
-fn is_name(k: Kind) -> bool
-    ensures { λ r. ⌜ r ≡ isName k ⌝ }
-{
-    match k {
-        Kind::Name => true,
-        Kind::Sequence => false,
-        Kind::Choice => false,
-    }
 }
 
 fn is_sequence(k: Kind) -> bool
@@ -141,7 +131,7 @@ pub fn survey_node(words: &[u32], node: usize, slot: Slot, square: &mut [u8]) ->
     let n = draft::node_of(words[node]);
     let kind = n.kind;
     let mark = n.mark;
-    if is_name(kind) {
+    if draft::is_name(kind) {
         let one = SlotSet::one(slot);
         let name = Survey {
             next: node + 1,

@@ -14,7 +14,8 @@ use Rattle.meaning.specs.Inner.Expressions.{slotted}
 use Rattle.meaning.proofs.Main.{clash-correct, ambiguous-clash, next-correct}
 use Rattle.meaning.proofs.Clashes.{goes-within, goes-from, next-goes}
 use Rattle.slotset.specs.Members.{member, pair}
-use Rattle.verdict.specs.Inner.Search.{can, nameAt, FirstAfter, Linked, Ready}
+use Rattle.naming.specs.Inner.Numbering.{nameAt}
+use Rattle.verdict.specs.Inner.Search.{can, FirstAfter, Linked, Ready}
 
 pub can-start : (start square : List ℕ) (p x : ℕ) → p ≡ 0 → can start square p x ≡ member start x
 can-start start square p x e = ap (λ q. can start square q x) e

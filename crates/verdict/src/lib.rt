@@ -2,15 +2,14 @@
 ghost use mathlib.Core.Path.{_≡_};
 ghost use mathlib.Core.List.{List};
 ghost use Prim.Native.Nat.{ℕ, _≤_};
-ghost use lib.ListN.{length, take};
+ghost use lib.ListN.{length};
 ghost use Rattle.model.specs.Limits.{slotLimit};
 ghost use Rattle.meaning.specs.Trees.{Tree};
 ghost use Rattle.slotset.specs.Members.{squareBytes};
-ghost use Rattle.table.specs.Inner.Tests.{leavesOf};
+ghost use Rattle.naming.specs.Inner.Numbering.{Fits, Numbers};
 ghost use Rattle.verdict.specs.Verdicts.{VerdictOn, JudgeAnswer};
-ghost use Rattle.verdict.specs.Inner.Search.{isName, can, Numbers, Linked, Ahead, Ready, Fits, Weighs};
+ghost use Rattle.verdict.specs.Inner.Search.{can, Linked, Ahead, Ready, Weighs};
 use loader::Loaded;
-use model::Kind;
 use model::Model;
 use model::Refusal;
 use model::Slot;
@@ -22,7 +21,8 @@ pub enum Verdict {
     Refused(Refusal),
 }
 
-// What is found of a draft: the verdict, how many slots it has, which can stand first and last, and whether it allows the empty list.
+// What is found of a draft: the verdict, how many slots it has, which can stand first and last, and whether it allows
+// the empty list.
 pub struct Weighed {
     pub verdict: Verdict,
     pub slots: usize,
@@ -37,48 +37,22 @@ fn wide(x: u16) -> usize
     x as usize
 }
 
-fn is_name(k: Kind) -> bool
-    ensures { λ r. ⌜ r ≡ isName k ⌝ }
-{
-    match k {
-        Kind::Name => true,
-        Kind::Sequence => false,
-        Kind::Choice => false,
-    }
-}
-
-// Writes the name number of each slot, in order, and tells how many slots there are.
-fn fill_names(words: &[u32], names: &mut [u16]) -> usize
-    requires { ⌜ (length (now names) ≡ slotLimit) × (length (leavesOf (now words)) ≤ slotLimit) ⌝ }
-    ensures { λ r. ⌜ (length (now (names .exit)) ≡ slotLimit) × ((r ≡ length (leavesOf (now (words .entry)))) × (take r (now (names .exit)) ≡ leavesOf (now (words .entry)))) ⌝ }
-{
-    let mut n = 0;
-    let mut i = 0;
-    while i < words.len() {
-        let node = draft::node_of(words[i]);
-        i += 1;
-        let kind = node.kind;
-        if !is_name(kind) {
-            continue;
-        }
-        names[n] = node.value;
-        n += 1;
-    }
-    n
-}
-
-// Links each slot to the next one of its name, or to one past the last: from the last slot down, with what was seen of each name.
+// Links each slot to the next one of its name, or to one past the last: from the last slot down, with what was seen of
+// each name.
 fn fill_later(names: &[u16], slots: usize, later: &mut [u16])
-    requires { ⌜ (length (now names) ≡ slotLimit) × ((length (now later) ≡ slotLimit) × ((slots ≤ slotLimit) × Numbers (now names) slots)) ⌝ }
-    ensures { λ _. ⌜ (length (now (later .exit)) ≡ slotLimit) × Linked (now (names .entry)) (now (later .exit)) slots ⌝ }
+    requires { ⌜ (length (now names) ≡ slotLimit) × ((length (now later) ≡ slotLimit)
+        × ((slots ≤ slotLimit) × Numbers (now names) slots)) ⌝ }
+    ensures { λ _. ⌜ (length (now (later .exit)) ≡ slotLimit)
+        × Linked (now (names .entry)) (now (later .exit)) slots ⌝ }
 {
     let mut seen = [(slots + 1) as u16; Model::NAMES];
     let mut x = slots;
     while 0 < x {
         let k = x - 1;
-        let m = wide(names[k]);
-        later[k] = seen[m];
-        seen[m] = x as u16;
+        let m = naming::number_at(names, Slot(x));
+        let i = m.0;
+        later[k] = seen[i];
+        seen[i] = x as u16;
         x -= 1;
     }
 }
@@ -96,8 +70,10 @@ fn can_follow(square: &[u8], start: SlotSet, p: Slot, x: Slot) -> bool
 
 // The first clash: the smallest p, then the smallest x, then the smallest y.
 fn first_clash(square: &[u8], start: SlotSet, later: &[u16], slots: usize) -> Verdict
-    requires { ⌜ (length (now square) ≡ squareBytes) × ((length (now later) ≡ slotLimit) × ((slots ≤ slotLimit) × Ahead (now later) slots)) ⌝ }
-    ensures { λ r. ⌜ ((k : Tree ℕ) (names : List ℕ) → Linked names (now (later .entry)) slots → Ready k (start .marks) (now (square .entry)) names slots → VerdictOn k r) ⌝ }
+    requires { ⌜ (length (now square) ≡ squareBytes) × ((length (now later) ≡ slotLimit)
+        × ((slots ≤ slotLimit) × Ahead (now later) slots)) ⌝ }
+    ensures { λ r. ⌜ ((k : Tree ℕ) (names : List ℕ) → Linked names (now (later .entry)) slots →
+        Ready k (start .marks) (now (square .entry)) names slots → VerdictOn k r) ⌝ }
 {
     let mut answer = Verdict::Deterministic;
     let mut p = 0;
@@ -129,10 +105,13 @@ fn first_clash(square: &[u8], start: SlotSet, later: &[u16], slots: usize) -> Ve
 
 // Weighs a draft: writes the name number of each slot and the square of what can follow, and finds the first clash.
 pub fn weigh(words: &[u32], names: &mut [u16], square: &mut [u8]) -> Weighed
-    requires { ⌜ (length (now names) ≡ slotLimit) × ((length (now square) ≡ squareBytes) × ((k : Tree ℕ) × Fits k (now words))) ⌝ }
-    ensures { λ r. ⌜ (length (now (names .exit)) ≡ slotLimit) × ((length (now (square .exit)) ≡ squareBytes) × ((k : Tree ℕ) → Fits k (now (words .entry)) → Weighs k r (now (names .exit)) (now (square .exit)))) ⌝ }
+    requires { ⌜ (length (now names) ≡ slotLimit) × ((length (now square) ≡ squareBytes)
+        × ((k : Tree ℕ) × Fits k (now words))) ⌝ }
+    ensures { λ r. ⌜ (length (now (names .exit)) ≡ slotLimit) × ((length (now (square .exit)) ≡ squareBytes)
+        × ((k : Tree ℕ) → Fits k (now (words .entry)) →
+        Weighs k r (now (names .exit)) (now (square .exit)))) ⌝ }
 {
-    let slots = fill_names(words, names);
+    let slots = naming::fill_names(words, names);
     let mut later = [0u16; Model::SLOTS];
     fill_later(names, slots, &mut later);
     let s = survey::survey_model(words, square);

@@ -1,10 +1,10 @@
 -- `matching::step` meets its contract. Assumes nothing.
 use borrow.Author.Needs.{needs}
-use mathlib.Core.Path.{refl}
+use mathlib.Core.Path.{_∙_}
 use native.Mathlib.Omega.{arith}
 use Rattle.matching.specs.Steps.{by-model, by-slot}
-use Rattle.matching.proofs.Going.{finds-zero, finds-some}
-use Rattle.matching.proofs.Preparing.{is-ready, not-ready}
+use Rattle.placing.proofs.Going.{finds-zero, finds-some}
+use Rattle.placing.proofs.Preparing.{is-ready, not-ready}
 use Rattle.matching.proofs.step.Statement.{statement}
 use Rattle.matching.proofs.step.Tie as tie
 
@@ -33,7 +33,7 @@ enum-told : tie.Need-enum-told
 enum-told c = search needs
 
 returns-2 : tie.Need-returns-2
-returns-2 c = let m = is-ready (c .before .before .before .before .before .before .before .before .before .before .before .before .before .before .before .before .args .table .now) (c .before .before .before .before .before .before .before .before .before .prepare .last .1 .0) (c .before .before .before .before .before .before .before .before .before .prepare .last .1 .1 .0) (c .before .before .before .before .before .before .before .before .before .prepare .last .1 .1 .1 .0) (c .before .before .before .before .before .before .before .before .before .prepare .last .1 .1 .1 .1 .0) (c .before .before .before .before .before .before .before .before .before .prepare .result .passing) (c .before .before .before .before .before .before .before .before .before .prepare .result) (c .before .before .before .before .before .before .before .before .before .prepare .ensures) (c .before .before .before .enum-told .given .1) in by-slot (m .model) (m .passed) (omega (arith, m .known .slots, c .if1 .taken))
+returns-2 c = let m = is-ready (c .before .before .before .before .before .before .before .before .before .before .before .before .before .before .before .before .args .table .now) (c .before .before .before .before .before .before .before .before .before .prepare .last .1 .0) (c .before .before .before .before .before .before .before .before .before .prepare .last .1 .1 .0) (c .before .before .before .before .before .before .before .before .before .prepare .last .1 .1 .1 .0) (c .before .before .before .before .before .before .before .before .before .prepare .last .1 .1 .1 .1 .0) (c .before .before .before .before .before .before .before .before .before .prepare .result .passing) (c .before .before .before .before .before .before .before .before .before .prepare .result) (c .before .before .before .before .before .before .before .before .before .prepare .ensures) (c .before .before .before .enum-told .given .1) in by-slot (m .model) (m .passed) (omega (arith, m .known .named-so .slots, c .if1 .taken))
 
 slice-aggregate-nexts : tie.Need-slice-aggregate-nexts
 slice-aggregate-nexts c = search needs
@@ -51,13 +51,13 @@ slice-aggregate-find-3 : tie.Need-slice-aggregate-find-3
 slice-aggregate-find-3 c = search needs
 
 find-requires : tie.Need-find-requires
-find-requires c κs = let m = is-ready (c .before .before .before .before .before .before .before .before .before .before .before .before .before .before .before .before .before .before .before .before .before .before .args .table .now) (c .before .before .before .before .before .before .before .before .before .before .before .before .before .before .before .prepare .last .1 .0) (c .before .before .before .before .before .before .before .before .before .before .before .before .before .before .before .prepare .last .1 .1 .0) (c .before .before .before .before .before .before .before .before .before .before .before .before .before .before .before .prepare .last .1 .1 .1 .0) (c .before .before .before .before .before .before .before .before .before .before .before .before .before .before .before .prepare .last .1 .1 .1 .1 .0) (c .before .before .before .before .before .before .before .before .before .before .before .before .before .before .before .prepare .result .passing) (c .before .before .before .before .before .before .before .before .before .before .before .before .before .before .before .prepare .result) (c .before .before .before .before .before .before .before .before .before .before .before .before .before .before .before .prepare .ensures) (c .before .before .before .before .before .before .before .before .before .enum-told .given .1) in (search needs, (search needs, (search needs, (m .few, (m .model, (c .before .before .before .before .before .before .before .before .before .before .before .before .before .before .before .prepare .result .first .marks, _, m .known))))))
+find-requires c κs = let m = is-ready (c .before .before .before .before .before .before .before .before .before .before .before .before .before .before .before .before .before .before .before .before .before .before .args .table .now) (c .before .before .before .before .before .before .before .before .before .before .before .before .before .before .before .prepare .last .1 .0) (c .before .before .before .before .before .before .before .before .before .before .before .before .before .before .before .prepare .last .1 .1 .0) (c .before .before .before .before .before .before .before .before .before .before .before .before .before .before .before .prepare .last .1 .1 .1 .0) (c .before .before .before .before .before .before .before .before .before .before .before .before .before .before .before .prepare .last .1 .1 .1 .1 .0) (c .before .before .before .before .before .before .before .before .before .before .before .before .before .before .before .prepare .result .passing) (c .before .before .before .before .before .before .before .before .before .before .before .before .before .before .before .prepare .result) (c .before .before .before .before .before .before .before .before .before .before .before .before .before .before .before .prepare .ensures) (c .before .before .before .before .before .before .before .before .before .enum-told .given .1) in (record { starts-room = search needs; lengths-room = search needs; names-room = search needs; few = m .few }, (m .model, m .known .named-so))
 
 returns-3 : tie.Need-returns-3
-returns-3 c = let m = is-ready (c .before .before .before .before .before .before .before .before .before .before .before .before .before .before .before .before .before .before .before .before .before .before .before .before .args .table .now) (c .before .before .before .before .before .before .before .before .before .before .before .before .before .before .before .before .before .prepare .last .1 .0) (c .before .before .before .before .before .before .before .before .before .before .before .before .before .before .before .before .before .prepare .last .1 .1 .0) (c .before .before .before .before .before .before .before .before .before .before .before .before .before .before .before .before .before .prepare .last .1 .1 .1 .0) (c .before .before .before .before .before .before .before .before .before .before .before .before .before .before .before .before .before .prepare .last .1 .1 .1 .1 .0) (c .before .before .before .before .before .before .before .before .before .before .before .before .before .before .before .before .before .prepare .result .passing) (c .before .before .before .before .before .before .before .before .before .before .before .before .before .before .before .before .before .prepare .result) (c .before .before .before .before .before .before .before .before .before .before .before .before .before .before .before .before .before .prepare .ensures) (c .before .before .before .before .before .before .before .before .before .before .before .enum-told .given .1) in record { model = m .model; passed = m .passed; within = omega (arith, m .known .slots, c .before .before .before .before .before .before .before .before .if1 .left); says = finds-zero (m .model) _ _ (c .before .find .result) (c .before .find .ensures .1 (m .model) (c .before .before .before .before .before .before .before .before .before .before .before .before .before .before .before .before .before .prepare .result .first .marks) _ (c .before .before .before .before .before .before .before .before .before .before .before .before .before .before .before .before .before .before .before .before .before .before .before .before .args .s .0) (m .known) (c .before .before .before .before .before .nexts .ensures)) (c .if2 .taken) }
+returns-3 c = let m = is-ready (c .before .before .before .before .before .before .before .before .before .before .before .before .before .before .before .before .before .before .before .before .before .before .before .before .before .args .table .now) (c .before .before .before .before .before .before .before .before .before .before .before .before .before .before .before .before .before .before .prepare .last .1 .0) (c .before .before .before .before .before .before .before .before .before .before .before .before .before .before .before .before .before .before .prepare .last .1 .1 .0) (c .before .before .before .before .before .before .before .before .before .before .before .before .before .before .before .before .before .before .prepare .last .1 .1 .1 .0) (c .before .before .before .before .before .before .before .before .before .before .before .before .before .before .before .before .before .before .prepare .last .1 .1 .1 .1 .0) (c .before .before .before .before .before .before .before .before .before .before .before .before .before .before .before .before .before .before .prepare .result .passing) (c .before .before .before .before .before .before .before .before .before .before .before .before .before .before .before .before .before .before .prepare .result) (c .before .before .before .before .before .before .before .before .before .before .before .before .before .before .before .before .before .before .prepare .ensures) (c .before .before .before .before .before .before .before .before .before .before .before .before .enum-told .given .1) in record { model = m .model; passed = m .passed; within = omega (arith, m .known .named-so .slots, c .before .before .before .before .before .before .before .before .before .if1 .left); says = finds-zero (m .model) _ _ (c .before .before .find .result .0) (c .before .before .find .ensures .1 (m .model) (c .before .before .before .before .before .before .before .before .before .before .before .before .before .before .before .before .before .before .before .before .before .before .before .before .before .args .s .0) (m .known .named-so) (λ x. c .before .before .before .before .before .before .nexts .ensures x ∙ m .known .nexts (c .before .before .before .before .before .before .before .before .before .before .before .before .before .before .before .before .before .before .before .before .before .before .before .before .before .args .s .0) x)) (c .if2 .taken) }
 
 returns-4 : tie.Need-returns-4
-returns-4 c = let m = is-ready (c .before .before .before .before .before .before .before .before .before .before .before .before .before .before .before .before .before .before .before .before .before .before .before .before .args .table .now) (c .before .before .before .before .before .before .before .before .before .before .before .before .before .before .before .before .before .prepare .last .1 .0) (c .before .before .before .before .before .before .before .before .before .before .before .before .before .before .before .before .before .prepare .last .1 .1 .0) (c .before .before .before .before .before .before .before .before .before .before .before .before .before .before .before .before .before .prepare .last .1 .1 .1 .0) (c .before .before .before .before .before .before .before .before .before .before .before .before .before .before .before .before .before .prepare .last .1 .1 .1 .1 .0) (c .before .before .before .before .before .before .before .before .before .before .before .before .before .before .before .before .before .prepare .result .passing) (c .before .before .before .before .before .before .before .before .before .before .before .before .before .before .before .before .before .prepare .result) (c .before .before .before .before .before .before .before .before .before .before .before .before .before .before .before .before .before .prepare .ensures) (c .before .before .before .before .before .before .before .before .before .before .before .enum-told .given .1) in record { model = m .model; passed = m .passed; within = omega (arith, m .known .slots, c .before .before .before .before .before .before .before .before .if1 .left); says = finds-some (m .model) _ _ (c .before .find .result) (c .before .find .ensures .1 (m .model) (c .before .before .before .before .before .before .before .before .before .before .before .before .before .before .before .before .before .prepare .result .first .marks) _ (c .before .before .before .before .before .before .before .before .before .before .before .before .before .before .before .before .before .before .before .before .before .before .before .before .args .s .0) (m .known) (c .before .before .before .before .before .nexts .ensures)) (c .if2 .left) }
+returns-4 c = let m = is-ready (c .before .before .before .before .before .before .before .before .before .before .before .before .before .before .before .before .before .before .before .before .before .before .before .before .before .args .table .now) (c .before .before .before .before .before .before .before .before .before .before .before .before .before .before .before .before .before .before .prepare .last .1 .0) (c .before .before .before .before .before .before .before .before .before .before .before .before .before .before .before .before .before .before .prepare .last .1 .1 .0) (c .before .before .before .before .before .before .before .before .before .before .before .before .before .before .before .before .before .before .prepare .last .1 .1 .1 .0) (c .before .before .before .before .before .before .before .before .before .before .before .before .before .before .before .before .before .before .prepare .last .1 .1 .1 .1 .0) (c .before .before .before .before .before .before .before .before .before .before .before .before .before .before .before .before .before .before .prepare .result .passing) (c .before .before .before .before .before .before .before .before .before .before .before .before .before .before .before .before .before .before .prepare .result) (c .before .before .before .before .before .before .before .before .before .before .before .before .before .before .before .before .before .before .prepare .ensures) (c .before .before .before .before .before .before .before .before .before .before .before .before .enum-told .given .1) in record { model = m .model; passed = m .passed; within = omega (arith, m .known .named-so .slots, c .before .before .before .before .before .before .before .before .before .if1 .left); says = finds-some (m .model) _ _ (c .before .before .find .result .0) (c .before .before .find .ensures .1 (m .model) (c .before .before .before .before .before .before .before .before .before .before .before .before .before .before .before .before .before .before .before .before .before .before .before .before .before .args .s .0) (m .known .named-so) (λ x. c .before .before .before .before .before .before .nexts .ensures x ∙ m .known .nexts (c .before .before .before .before .before .before .before .before .before .before .before .before .before .before .before .before .before .before .before .before .before .before .before .before .before .args .s .0) x)) (c .if2 .left) }
 
 pub step-spec : {M : Type 1} → statement M
 step-spec =

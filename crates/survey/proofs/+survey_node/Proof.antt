@@ -17,10 +17,10 @@ use Rattle.survey.proofs.survey_node.Kinds as kinds
 use Rattle.survey.proofs.+survey_node.Lts-survey_node as lts
 use Rattle.slotset.proofs.SlotSet.none.Reads as none-reads
 use Rattle.slotset.proofs.SlotSet.one.Reads as one-reads
-use Rattle.survey.proofs.is_name.Reads as is-name-reads
 use Rattle.survey.proofs.is_sequence.Reads as is-sequence-reads
 use Rattle.survey.proofs.joined.Reads as joined-reads
 use Rattle.survey.proofs.marked.Reads as marked-reads
+use Rattle.draft.proofs.is_name.Reads as is-name-reads
 use Rattle.draft.proofs.node_of.Reads as node-of-reads
 use Rattle.survey.proofs.+survey_node.{statement}
 use Rattle.survey.proofs.+survey_node.Tie.{close}

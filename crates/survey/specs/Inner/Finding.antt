@@ -15,11 +15,6 @@ use Rattle.table.specs.Inner.Forest.{Sits}
 use Rattle.survey.specs.Inner.Fours.{Four, of, four, over4}
 use Rattle.survey.specs.declared.Survey.{Survey}
 
-abbrev pub isName : Kind → Bool
-isName Name = true
-isName Sequence = false
-isName Choice = false
-
 abbrev pub isSequence : Kind → Bool
 isSequence Name = false
 isSequence Sequence = true

@@ -1,11 +1,11 @@
 -- `verdict::fill_later` meets its contract: the slots above x are linked, and of each name the first above x was seen. Assumes nothing.
 use borrow.Author.Needs.{needs}
-use mathlib.Core.Path.{_≡_, refl, sym, ap, _∙_}
+use mathlib.Core.Path.{_≡_}
 use Prim.Native.Nat.{_+_, _-_, _≤_, _<_}
 use native.Mathlib.Omega.{arith}
 use lib.ListN.{length, getD, length-set, getD-replicate}
 use Rattle.model.specs.Limits.{slotLimit, nameCountLimit}
-use Rattle.verdict.proofs.Names.{LinkedAbove, Seen, none-seen, link, see}
+use Rattle.verdict.proofs.Links.{LinkedAbove, Seen, none-seen, link, see}
 use Rattle.verdict.proofs.fill_later.Statement.{statement}
 use Rattle.verdict.proofs.fill_later.Tie as tie
 
@@ -27,20 +27,14 @@ loop-holds c = (search needs, (search needs, (search needs, ((λ z h i. absurd (
 sub-k : tie.Need-sub-k Inv-loop μ-loop
 sub-k c = search needs
 
-mul-wide : tie.Need-mul-wide Inv-loop μ-loop
-mul-wide c = search needs
-
-shared-slice-read-wide : tie.Need-shared-slice-read-wide Inv-loop μ-loop
-shared-slice-read-wide c = search needs
-
-wide-requires : tie.Need-wide-requires Inv-loop μ-loop
-wide-requires c κs = search needs
+number-at-requires : tie.Need-number-at-requires Inv-loop μ-loop
+number-at-requires c κs = search needs
 
 mul-later : tie.Need-mul-later Inv-loop μ-loop
-mul-later c = omega (arith, c .wide .ensures, c .before .before .before .before .before .before .pre .1 .1 .1 (c .before .before .before .loop .x - 1) (omega arith))
+mul-later c = omega (arith, c .number-at .ensures .is, c .before .before .before .before .before .pre .1 .1 .1 (c .before .before .loop .x - 1) (omega arith))
 
 array-read-later : tie.Need-array-read-later Inv-loop μ-loop
-array-read-later c = omega (arith, c .wide .ensures, c .before .before .before .before .before .before .pre .1 .1 .1 (c .before .before .before .loop .x - 1) (omega arith))
+array-read-later c = omega (arith, c .number-at .ensures .is, c .before .before .before .before .before .pre .1 .1 .1 (c .before .before .loop .x - 1) (omega arith))
 
 mul-later-2 : tie.Need-mul-later-2 Inv-loop μ-loop
 mul-later-2 c = search needs
@@ -52,10 +46,10 @@ cast-seen-2 : tie.Need-cast-seen-2 Inv-loop μ-loop
 cast-seen-2 c = search needs
 
 mul-seen : tie.Need-mul-seen Inv-loop μ-loop
-mul-seen c = omega (arith, c .wide .ensures, c .before .before .before .before .before .before .pre .1 .1 .1 (c .before .before .before .loop .x - 1) (omega arith))
+mul-seen c = omega (arith, c .number-at .ensures .is, c .before .before .before .before .before .pre .1 .1 .1 (c .before .before .loop .x - 1) (omega arith))
 
 array-write-seen : tie.Need-array-write-seen Inv-loop μ-loop
-array-write-seen c = omega (arith, c .wide .ensures, c .before .before .before .before .before .before .pre .1 .1 .1 (c .before .before .before .loop .x - 1) (omega arith))
+array-write-seen c = omega (arith, c .number-at .ensures .is, c .before .before .before .before .before .pre .1 .1 .1 (c .before .before .loop .x - 1) (omega arith))
 
 sub-x : tie.Need-sub-x Inv-loop μ-loop
 sub-x c = search needs
@@ -64,7 +58,7 @@ loop-less : tie.Need-loop-less Inv-loop μ-loop
 loop-less c = search needs
 
 loop-again : tie.Need-loop-again Inv-loop μ-loop
-loop-again c = let b : c .wide .result < nameCountLimit = omega (arith, c .wide .ensures, (c .before .before .before .before .before .before .pre .1 .1 .1 (c .before .before .before .loop .x - 1) (omega arith))) in (search needs, (omega (arith, length-set (c .before .before .before .loop .later) (c .before .before .before .loop .x - 1) (getD (c .before .before .before .loop .seen) (c .wide .result) 0)), (omega (arith, length-set (c .before .before .before .loop .seen) (c .wide .result) (c .before .before .before .loop .x)), (link (c .before .before .before .before .before .before .args .names .now) (c .before .before .before .loop .later) (c .before .before .before .loop .seen) (c .before .before .before .before .before .before .args .slots) (c .before .before .before .loop .x) (c .wide .result) (search needs) (search needs) (c .wide .ensures) (c .before .before .before .loop .inv .1 .1 .1 .0) (c .before .before .before .loop .inv .1 .1 .1 .1) (search needs) b, see (c .before .before .before .before .before .before .args .names .now) (c .before .before .before .loop .later) (c .before .before .before .loop .seen) (c .before .before .before .before .before .before .args .slots) (c .before .before .before .loop .x) (c .wide .result) (search needs) (search needs) (c .wide .ensures) (c .before .before .before .loop .inv .1 .1 .1 .1) (omega (arith, b))))))
+loop-again c = let b : c .number-at .result .0 < nameCountLimit = omega (arith, c .number-at .ensures .is, (c .before .before .before .before .before .pre .1 .1 .1 (c .before .before .loop .x - 1) (omega arith))) in (search needs, (omega (arith, length-set (c .before .before .loop .later) (c .before .before .loop .x - 1) (getD (c .before .before .loop .seen) (c .number-at .result .0) 0)), (omega (arith, length-set (c .before .before .loop .seen) (c .number-at .result .0) (c .before .before .loop .x)), (link (c .before .before .before .before .before .args .names .now) (c .before .before .loop .later) (c .before .before .loop .seen) (c .before .before .before .before .before .args .slots) (c .before .before .loop .x) (c .number-at .result .0) (search needs) (search needs) (c .number-at .ensures .is) (c .before .before .loop .inv .1 .1 .1 .0) (c .before .before .loop .inv .1 .1 .1 .1) (search needs) b, see (c .before .before .before .before .before .args .names .now) (c .before .before .loop .later) (c .before .before .loop .seen) (c .before .before .before .before .before .args .slots) (c .before .before .loop .x) (c .number-at .result .0) (search needs) (search needs) (c .number-at .ensures .is) (c .before .before .loop .inv .1 .1 .1 .1) (omega (arith, b))))))
 
 same-length : tie.Need-same-length Inv-loop μ-loop
 same-length c = search needs
@@ -82,9 +76,7 @@ fill-later-spec =
     cast-seen
     loop-holds
     sub-k
-    mul-wide
-    shared-slice-read-wide
-    wide-requires
+    number-at-requires
     mul-later
     array-read-later
     mul-later-2

@@ -3,7 +3,8 @@ use borrow.Author.Needs.{needs}
 use mathlib.Core.Path.{refl}
 use native.Mathlib.Omega.{arith}
 use Rattle.table.specs.Encoding.{numbers}
-use Rattle.verdict.proofs.Weighing.{loaded, not-loaded, judged}
+use Rattle.naming.proofs.Loading.{loaded, not-loaded}
+use Rattle.verdict.proofs.Weighing.{judged}
 use Rattle.verdict.proofs.judge.Statement.{statement}
 use Rattle.verdict.proofs.judge.Tie as tie
 

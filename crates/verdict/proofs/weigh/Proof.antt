@@ -1,7 +1,8 @@
 -- `verdict::weigh` meets its contract. Assumes nothing.
 use borrow.Author.Needs.{needs}
 use native.Mathlib.Omega.{arith}
-use Rattle.verdict.proofs.Weighing.{fits-count, fits-numbers, fits-stands, linked-ahead, weighed}
+use Rattle.naming.proofs.Loading.{fits-count, fits-numbers}
+use Rattle.verdict.proofs.Weighing.{fits-stands, linked-ahead, weighed}
 use Rattle.verdict.proofs.weigh.Statement.{statement}
 use Rattle.verdict.proofs.weigh.Tie as tie
 
@@ -12,7 +13,7 @@ slice-aggregate-fill-later : tie.Need-slice-aggregate-fill-later
 slice-aggregate-fill-later c = search needs
 
 fill-later-requires : tie.Need-fill-later-requires
-fill-later-requires c κs = let e = fits-count (c .before .before .before .before .before .before .before .before .before .pre .1 .1 .0) _ (c .before .before .before .before .before .before .before .before .before .pre .1 .1 .1) in let f = c .before .before .before .before .fill-names .ensures in (f .0, (search needs, (omega (arith, e, f .1 .0, c .before .before .before .before .before .before .before .before .before .pre .1 .1 .1 .few), fits-numbers (c .before .before .before .before .before .before .before .before .before .pre .1 .1 .0) _ (c .before .before .before .before .before .before .before .before .before .pre .1 .1 .1) _ _ (f .1 .0) (f .1 .1))))
+fill-later-requires c κs = let e = fits-count (c .before .before .before .before .before .before .before .before .before .pre .1 .1 .0) _ (c .before .before .before .before .before .before .before .before .before .pre .1 .1 .1) in let f = c .before .before .before .before .fill-names .ensures in (f .room, (search needs, (omega (arith, e, f .count, c .before .before .before .before .before .before .before .before .before .pre .1 .1 .1 .few), fits-numbers (c .before .before .before .before .before .before .before .before .before .pre .1 .1 .0) _ (c .before .before .before .before .before .before .before .before .before .pre .1 .1 .1) _ _ f)))
 
 survey-model-requires : tie.Need-survey-model-requires
 survey-model-requires c κs = (c .before .before .before .before .before .before .before .before .before .before .before .before .pre .1 .0, (c .before .before .before .before .before .before .before .before .before .before .before .before .pre .1 .1 .0, fits-stands (c .before .before .before .before .before .before .before .before .before .before .before .before .pre .1 .1 .0) _ (c .before .before .before .before .before .before .before .before .before .before .before .before .pre .1 .1 .1)))
@@ -21,7 +22,7 @@ slice-aggregate-first-clash : tie.Need-slice-aggregate-first-clash
 slice-aggregate-first-clash c = search needs
 
 first-clash-requires : tie.Need-first-clash-requires
-first-clash-requires c κs = let e = fits-count (c .before .before .before .before .before .before .before .before .before .before .before .before .before .before .before .before .before .before .before .pre .1 .1 .0) _ (c .before .before .before .before .before .before .before .before .before .before .before .before .before .before .before .before .before .before .before .pre .1 .1 .1) in let f = c .before .before .before .before .before .before .before .before .before .before .before .before .before .before .fill-names .ensures in (search needs, (c .before .before .before .before .before .before .before .before .before .fill-later .ensures .0, (omega (arith, e, f .1 .0, c .before .before .before .before .before .before .before .before .before .before .before .before .before .before .before .before .before .before .before .pre .1 .1 .1 .few), linked-ahead _ (c .before .before .before .before .before .before .before .before .before .fill-later .last .1 .1 .0) _ (c .before .before .before .before .before .before .before .before .before .fill-later .ensures .1))))
+first-clash-requires c κs = let e = fits-count (c .before .before .before .before .before .before .before .before .before .before .before .before .before .before .before .before .before .before .before .pre .1 .1 .0) _ (c .before .before .before .before .before .before .before .before .before .before .before .before .before .before .before .before .before .before .before .pre .1 .1 .1) in let f = c .before .before .before .before .before .before .before .before .before .before .before .before .before .before .fill-names .ensures in (search needs, (c .before .before .before .before .before .before .before .before .before .fill-later .ensures .0, (omega (arith, e, f .count, c .before .before .before .before .before .before .before .before .before .before .before .before .before .before .before .before .before .before .before .pre .1 .1 .1 .few), linked-ahead _ (c .before .before .before .before .before .before .before .before .before .fill-later .last .1 .1 .0) _ (c .before .before .before .before .before .before .before .before .before .fill-later .ensures .1))))
 
 same-length : tie.Need-same-length
 same-length c = search needs
@@ -31,7 +32,7 @@ same-length-2 c = search needs
 
 returns : tie.Need-returns
 returns c = let f = c .before .before .before .before .before .before .before .before .before .before .before .before .before .before .before .fill-names .ensures in
-    (c .before .before .before .before .before .before .before .before .before .before .before .before .before .before .before .fill-names .ensures .0, (search needs, λ k fits. weighed k _ fits _ (c .before .before .before .before .before .before .before .before .before .before .fill-later .last .1 .1 .0) _ _ (f .1 .0) (f .1 .1) (c .before .before .before .before .before .before .before .before .before .before .fill-later .ensures .1) (c .before .before .before .before .before .before .before .survey-model .result) (c .before .before .before .before .before .before .before .survey-model .ensures k (fits-stands k _ fits)) (c .first-clash .result) (c .first-clash .ensures)))
+    (c .before .before .before .before .before .before .before .before .before .before .before .before .before .before .before .fill-names .ensures .room, (search needs, λ k fits. weighed k _ fits _ (c .before .before .before .before .before .before .before .before .before .before .fill-later .last .1 .1 .0) _ _ f (c .before .before .before .before .before .before .before .before .before .before .fill-later .ensures .1) (c .before .before .before .before .before .before .before .survey-model .result) (c .before .before .before .before .before .before .before .survey-model .ensures k (fits-stands k _ fits)) (c .first-clash .result) (c .first-clash .ensures)))
 
 pub weigh-spec : {M : Type 1} → statement M
 weigh-spec =

@@ -1,18 +1,14 @@
 -- What the search for the first clash works on: what can come next, and for each slot the next one of its name. Assumes nothing.
-use mathlib.Core.Bool.{Bool, true, false}
+use mathlib.Core.Bool.{Bool}
 use mathlib.Core.List.{List}
 use mathlib.Core.Path.{_≡_}
 use Prim.Native.Nat.{ℕ, zero, suc, _+_, _-_, _≤_, _<_}
 use lib.ListN.{length, getD}
-use Rattle.model.specs.Limits.{slotLimit, nameCountLimit}
-use Rattle.model.specs.declared.Kind.{Kind}
-use Rattle.model.specs.declared.Kind.the-variants.{Name, Sequence, Choice}
 use Rattle.meaning.specs.Trees.{Tree, leaves}
 use Rattle.meaning.specs.Slots.{named}
 use Rattle.meaning.specs.Inner.Expressions.{slotted, next, ends}
 use Rattle.slotset.specs.Members.{member, pair}
-use Rattle.table.specs.Inner.Draft.{words, values}
-use Rattle.table.specs.Inner.Forest.{Below}
+use Rattle.naming.specs.Inner.Numbering.{nameAt}
 use Rattle.verdict.specs.Verdicts.{VerdictOn}
 use Rattle.verdict.specs.declared.Weighed.{Weighed}
 
@@ -20,19 +16,6 @@ use Rattle.verdict.specs.declared.Weighed.{Weighed}
 abbrev pub can : List ℕ → List ℕ → ℕ → ℕ → Bool
 can start square zero x = member start x
 can start square (suc p) x = pair square (suc p) x
-
-abbrev pub isName : Kind → Bool
-isName Name = true
-isName Sequence = false
-isName Choice = false
-
--- n name numbers, each one that a model can have
-abbrev pub Numbers : List ℕ → ℕ → Type 0
-Numbers names n = (i : ℕ) → i < n → getD names i 0 < nameCountLimit
-
--- the name number of a slot
-abbrev pub nameAt : List ℕ → ℕ → ℕ
-nameAt names x = getD names (x - 1) 0
 
 -- y is the first of n slots after x whose name number is m, or one past the last
 pub record FirstAfter (names : List ℕ) (n x m y : ℕ) : Type 0 where
@@ -59,13 +42,6 @@ pub record Ready (k : Tree ℕ) (start square names : List ℕ) (n : ℕ) : Type
 abbrev pub stop : Bool → List ℕ → ℕ → Bool
 stop empty last zero = empty
 stop empty last (suc s) = member last (suc s)
-
--- the words are those of the tree k, whose name numbers and slots are within the limits
-pub record Fits (k : Tree ℕ) (ws : List ℕ) : Type 0 where
-  pub here : ws ≡ words k
-  pub numbers : Below nameCountLimit k
-  pub few : length (leaves k) ≤ slotLimit
-  pub small : length (words k) < values
 
 -- what weighing a draft finds of its tree: the verdict, what can come next and what can end a list, and the names of the slots
 pub record Weighs (k : Tree ℕ) (r : Weighed) (names square : List ℕ) : Type 0 where

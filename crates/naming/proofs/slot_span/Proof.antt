@@ -1,0 +1,83 @@
+-- `naming::slot_span` meets its contract. Assumes nothing.
+use borrow.Author.Needs.{needs}
+use mathlib.Core.Path.{refl}
+use native.Mathlib.Omega.{arith}
+use Rattle.table.specs.Encoding.{numbers}
+use Rattle.naming.specs.SlotNames.{refused}
+use Rattle.naming.proofs.Loading.{loaded, not-loaded, fits-count}
+use Rattle.naming.proofs.Spans.{slot-here, span-here, span-none}
+use Rattle.naming.proofs.slot_span.Statement.{statement}
+use Rattle.naming.proofs.slot_span.Tie as tie
+
+slice-aggregate-load : tie.Need-slice-aggregate-load
+slice-aggregate-load c = search needs
+
+slice-aggregate-load-2 : tie.Need-slice-aggregate-load-2
+slice-aggregate-load-2 c = search needs
+
+slice-aggregate-load-3 : tie.Need-slice-aggregate-load-3
+slice-aggregate-load-3 c = search needs
+
+load-requires : tie.Need-load-requires
+load-requires c κs = search needs
+
+enum-told : tie.Need-enum-told
+enum-told c = search needs
+
+enum-known-loaded : tie.Need-enum-known-loaded
+enum-known-loaded c = search needs
+
+sub-fill-names : tie.Need-sub-fill-names
+sub-fill-names c = search needs
+
+part-fill-names-start : tie.Need-part-fill-names-start
+part-fill-names-start c = search needs
+
+part-fill-names-end : tie.Need-part-fill-names-end
+part-fill-names-end c = let m = loaded (c .before .before .before .before .before .before .before .before .before .before .before .before .args .table .now) (c .before .before .before .before .before .before .before .load .last .1 .0) (c .before .before .before .before .before .before .before .load .last .1 .1 .0) (c .before .before .before .before .before .before .before .load .last .1 .1 .1 .0) _ (c .before .before .loaded .given .0 .0) (c .before .before .before .before .before .before .before .load .ensures) (c .before .before .loaded .given .1) in omega (arith, m .within)
+
+slice-aggregate-fill-names : tie.Need-slice-aggregate-fill-names
+slice-aggregate-fill-names c = search needs
+
+fill-names-requires : tie.Need-fill-names-requires
+fill-names-requires c κs = let m = loaded (c .before .before .before .before .before .before .before .before .before .before .before .before .before .before .args .table .now) (c .before .before .before .before .before .before .before .before .before .load .last .1 .0) (c .before .before .before .before .before .before .before .before .before .load .last .1 .1 .0) (c .before .before .before .before .before .before .before .before .before .load .last .1 .1 .1 .0) _ (c .before .before .before .before .loaded .given .0 .0) (c .before .before .before .before .before .before .before .before .before .load .ensures) (c .before .before .before .before .loaded .given .1) in let e = fits-count (numbers (m .model)) _ (m .fits) in (search needs, omega (arith, e, m .fits .few))
+
+returns : tie.Need-returns
+returns c = let m = loaded (c .before .before .before .before .before .before .before .before .before .before .before .before .before .before .before .before .before .before .args .table .now) (c .before .before .before .before .before .before .before .before .before .before .before .before .before .load .last .1 .0) (c .before .before .before .before .before .before .before .before .before .before .before .before .before .load .last .1 .1 .0) (c .before .before .before .before .before .before .before .before .before .before .before .before .before .load .last .1 .1 .1 .0) _ (c .before .before .before .before .before .before .before .before .loaded .given .0 .0) (c .before .before .before .before .before .before .before .before .before .before .before .before .before .load .ensures) (c .before .before .before .before .before .before .before .before .loaded .given .1) in span-none (c .before .before .before .before .before .before .before .before .before .before .before .before .before .before .before .before .before .before .args .table .now) (c .before .before .before .before .before .before .before .before .before .before .before .before .before .load .last .1 .0) (c .before .before .before .before .before .before .before .before .before .before .before .before .before .load .last .1 .1 .0) (c .before .before .before .before .before .before .before .before .before .before .before .before .before .load .last .1 .1 .1 .0) (c .before .before .before .before .before .before .before .before .loaded .given .0 .0) m (c .before .before .before .fill-names .last .1 .0) (c .before .before .before .fill-names .result) (c .before .before .before .fill-names .ensures) _ (λ l h. omega (arith, l, c .if1 .taken))
+
+returns-2 : tie.Need-returns-2
+returns-2 c = let m = loaded (c .before .before .before .before .before .before .before .before .before .before .before .before .before .before .before .before .before .before .before .before .args .table .now) (c .before .before .before .before .before .before .before .before .before .before .before .before .before .before .before .load .last .1 .0) (c .before .before .before .before .before .before .before .before .before .before .before .before .before .before .before .load .last .1 .1 .0) (c .before .before .before .before .before .before .before .before .before .before .before .before .before .before .before .load .last .1 .1 .1 .0) _ (c .before .before .before .before .before .before .before .before .before .before .loaded .given .0 .0) (c .before .before .before .before .before .before .before .before .before .before .before .before .before .before .before .load .ensures) (c .before .before .before .before .before .before .before .before .before .before .loaded .given .1) in span-none (c .before .before .before .before .before .before .before .before .before .before .before .before .before .before .before .before .before .before .before .before .args .table .now) (c .before .before .before .before .before .before .before .before .before .before .before .before .before .before .before .load .last .1 .0) (c .before .before .before .before .before .before .before .before .before .before .before .before .before .before .before .load .last .1 .1 .0) (c .before .before .before .before .before .before .before .before .before .before .before .before .before .before .before .load .last .1 .1 .1 .0) (c .before .before .before .before .before .before .before .before .before .before .loaded .given .0 .0) m (c .before .before .before .before .before .fill-names .last .1 .0) (c .before .before .before .before .before .fill-names .result) (c .before .before .before .before .before .fill-names .ensures) _ (λ l h. omega (arith, h, c .if2 .taken))
+
+slice-aggregate-slot-part : tie.Need-slice-aggregate-slot-part
+slice-aggregate-slot-part c = search needs
+
+slot-part-requires : tie.Need-slot-part-requires
+slot-part-requires c κs = let m = loaded (c .before .before .before .before .before .before .before .before .before .before .before .before .before .before .before .before .before .before .before .before .before .args .table .now) (c .before .before .before .before .before .before .before .before .before .before .before .before .before .before .before .before .load .last .1 .0) (c .before .before .before .before .before .before .before .before .before .before .before .before .before .before .before .before .load .last .1 .1 .0) (c .before .before .before .before .before .before .before .before .before .before .before .before .before .before .before .before .load .last .1 .1 .1 .0) _ (c .before .before .before .before .before .before .before .before .before .before .before .loaded .given .0 .0) (c .before .before .before .before .before .before .before .before .before .before .before .before .before .before .before .before .load .ensures) (c .before .before .before .before .before .before .before .before .before .before .before .loaded .given .1) in (m .model, slot-here (c .before .before .before .before .before .before .before .before .before .before .before .before .before .before .before .before .before .before .before .before .before .args .table .now) (c .before .before .before .before .before .before .before .before .before .before .before .before .before .before .before .before .load .last .1 .0) (c .before .before .before .before .before .before .before .before .before .before .before .before .before .before .before .before .load .last .1 .1 .0) (c .before .before .before .before .before .before .before .before .before .before .before .before .before .before .before .before .load .last .1 .1 .1 .0) (c .before .before .before .before .before .before .before .before .before .before .before .loaded .given .0 .0) m (c .before .before .before .before .before .before .fill-names .last .1 .0) (c .before .before .before .before .before .before .fill-names .result) (c .before .before .before .before .before .before .fill-names .ensures) (c .before .before .before .before .before .before .before .before .before .before .before .before .before .before .before .before .before .before .before .before .before .args .s .0) (omega (arith, c .before .before .before .if1 .left)) (omega (arith, c .before .if2 .left)))
+
+returns-3 : tie.Need-returns-3
+returns-3 c = refused (not-loaded (c .before .before .before .before .before .before .before .before .before .before .args .table .now) (c .before .before .before .before .before .load .last .1 .0) (c .before .before .before .before .before .load .last .1 .1 .0) (c .before .before .before .before .before .load .last .1 .1 .1 .0) _ (c .enum-told .given .0 .0) (c .before .before .before .before .before .load .ensures) (c .enum-told .given .1)) refl refl
+
+returns-4 : tie.Need-returns-4
+returns-4 c = let m = loaded (c .before .before .before .before .before .before .before .before .before .before .before .before .before .before .before .before .before .before .before .before .before .before .args .table .now) (c .before .before .before .before .before .before .before .before .before .before .before .before .before .before .before .before .before .load .last .1 .0) (c .before .before .before .before .before .before .before .before .before .before .before .before .before .before .before .before .before .load .last .1 .1 .0) (c .before .before .before .before .before .before .before .before .before .before .before .before .before .before .before .before .before .load .last .1 .1 .1 .0) _ (c .before .before .before .before .before .before .before .before .before .before .before .before .loaded .given .0 .0) (c .before .before .before .before .before .before .before .before .before .before .before .before .before .before .before .before .before .load .ensures) (c .before .before .before .before .before .before .before .before .before .before .before .before .loaded .given .1) in span-here (c .before .before .before .before .before .before .before .before .before .before .before .before .before .before .before .before .before .before .before .before .before .before .args .table .now) (c .before .before .before .before .before .before .before .before .before .before .before .before .before .before .before .before .before .load .last .1 .0) (c .before .before .before .before .before .before .before .before .before .before .before .before .before .before .before .before .before .load .last .1 .1 .0) (c .before .before .before .before .before .before .before .before .before .before .before .before .before .before .before .before .before .load .last .1 .1 .1 .0) (c .before .before .before .before .before .before .before .before .before .before .before .before .loaded .given .0 .0) m (c .before .before .before .before .before .before .before .fill-names .last .1 .0) (c .before .before .before .before .before .before .before .fill-names .result) (c .before .before .before .before .before .before .before .fill-names .ensures) (c .before .before .before .before .before .before .before .before .before .before .before .before .before .before .before .before .before .before .before .before .before .before .args .s .0) (c .slot-part .result) (omega (arith, c .before .before .before .before .if1 .left)) (omega (arith, c .before .before .if2 .left)) (c .slot-part .ensures (m .model) (slot-here (c .before .before .before .before .before .before .before .before .before .before .before .before .before .before .before .before .before .before .before .before .before .before .args .table .now) (c .before .before .before .before .before .before .before .before .before .before .before .before .before .before .before .before .before .load .last .1 .0) (c .before .before .before .before .before .before .before .before .before .before .before .before .before .before .before .before .before .load .last .1 .1 .0) (c .before .before .before .before .before .before .before .before .before .before .before .before .before .before .before .before .before .load .last .1 .1 .1 .0) (c .before .before .before .before .before .before .before .before .before .before .before .before .loaded .given .0 .0) m (c .before .before .before .before .before .before .before .fill-names .last .1 .0) (c .before .before .before .before .before .before .before .fill-names .result) (c .before .before .before .before .before .before .before .fill-names .ensures) (c .before .before .before .before .before .before .before .before .before .before .before .before .before .before .before .before .before .before .before .before .before .before .args .s .0) (omega (arith, c .before .before .before .before .if1 .left)) (omega (arith, c .before .before .if2 .left))))
+
+pub slot-span-spec : {M : Type 1} → statement M
+slot-span-spec =
+    tie.close
+    (tie.spec
+    slice-aggregate-load
+    slice-aggregate-load-2
+    slice-aggregate-load-3
+    load-requires
+    enum-told
+    enum-known-loaded
+    sub-fill-names
+    part-fill-names-start
+    part-fill-names-end
+    slice-aggregate-fill-names
+    fill-names-requires
+    returns
+    returns-2
+    slice-aggregate-slot-part
+    slot-part-requires
+    returns-3
+    returns-4)

@@ -1,0 +1,86 @@
+-- `placing::place_children` meets its contract: so many children are placed, and the text from i on is the others. Assumes nothing.
+use borrow.Author.Needs.{needs}
+use mathlib.Core.Path.{_≡_, refl, _∙_}
+use Prim.Native.Nat.{_-_, _≤_}
+use native.Mathlib.Omega.{arith}
+use lib.ListN.{length, take, drop}
+use Rattle.meaning.specs.Trees.{Tree}
+use Rattle.names.specs.Bytes.{Bytes}
+use Rattle.children.specs.Inner.Splitting.{Sound}
+use Rattle.placing.specs.Inner.Memory.{Known}
+use Rattle.placing.proofs.Going.{Going, going-start, all-placed, stops-here, going-on, finds-zero, finds-some}
+use Rattle.placing.proofs.place_children.Statement.{statement}
+use Rattle.placing.proofs.place_children.Tie as tie
+
+abbrev Inv-loop : tie.InvT-loop
+Inv-loop table starts lengths names slots first square children room₀ held₀ placed₀ i₀ room held placed i = (i ≤ length children) × ((placed ≤ i) × ((held ≤ slots) × ((length room ≡ length room₀) × ((t : Tree Bytes) → Known t table starts lengths names slots (first .marks) square → Sound children 0 → Going t children room₀ placed held i room))))
+
+abbrev μ-loop : tie.MeasureT-loop
+μ-loop table starts lengths names slots first square children room₀ held₀ placed₀ i₀ room held placed i = length children - i
+
+loop-holds : tie.Need-loop-holds Inv-loop μ-loop
+loop-holds c = (search needs, (search needs, (search needs, (refl, λ t known sound. going-start t ((c .before .before .before .before .before .before .before .args .children) .now) ((c .before .before .before .before .before .before .before .args .room) .now) sound))))
+
+next-word-requires : tie.Need-next-word-requires Inv-loop μ-loop
+next-word-requires c κs = search needs
+
+same-length : tie.Need-same-length Inv-loop μ-loop
+same-length c = c .before .before .loop .inv .1 .1 .1 .0
+
+returns : tie.Need-returns Inv-loop μ-loop
+returns c = (search needs, λ t known sound. record { placing = (c .before .before .loop .inv .1 .1 .1 .1 t known sound) .placing; ends = all-placed t ((c .before .before .before .before .before .before .before .before .before .before .args .children) .now) ((c .before .before .before .before .before .before .before .before .before .before .args .room) .now) (c .before .before .loop .placed) (c .before .before .loop .held) (c .before .before .loop .i) (c .before .before .loop .room) (c .before .before .loop .inv .1 .1 .1 .1 t known sound) (c .before .next-word .result .start) (c .before .next-word .result .end) (c .before .next-word .ensures) (c .if1 .taken) })
+
+nexts-requires : tie.Need-nexts-requires Inv-loop μ-loop
+nexts-requires c κs = search needs
+
+sub-find : tie.Need-sub-find Inv-loop μ-loop
+sub-find c = let w = (c .before .before .next-word .ensures) .word in omega (arith, w .from, w .within)
+
+part-find-start : tie.Need-part-find-start Inv-loop μ-loop
+part-find-start c = let w = (c .before .before .next-word .ensures) .word in omega (arith, w .from, w .within)
+
+part-find-end : tie.Need-part-find-end Inv-loop μ-loop
+part-find-end c = let w = (c .before .before .next-word .ensures) .word in omega (arith, w .from, w .within)
+
+find-requires : tie.Need-find-requires Inv-loop μ-loop
+find-requires c κs = (c .before .before .before .before .before .before .before .before .before .before .before .before .pre .0, (c .before .before .before .before .before .before .before .before .before .before .before .before .pre .1 .1 .1 .0, c .before .before .before .before .before .before .before .before .before .before .before .before .pre .1 .1 .1 .1 .named-so))
+
+same-length-2 : tie.Need-same-length-2 Inv-loop μ-loop
+same-length-2 c = c .before .before .before .before .before .before .before .loop .inv .1 .1 .1 .0
+
+returns-2 : tie.Need-returns-2 Inv-loop μ-loop
+returns-2 c = (search needs, λ t known sound. record { placing = (c .before .before .before .before .before .before .before .loop .inv .1 .1 .1 .1 t known sound) .placing; ends = stops-here t ((c .before .before .before .before .before .before .before .before .before .before .before .before .before .before .before .args .children) .now) ((c .before .before .before .before .before .before .before .before .before .before .before .before .before .before .before .args .room) .now) (c .before .before .before .before .before .before .before .loop .placed) (c .before .before .before .before .before .before .before .loop .held) (c .before .before .before .before .before .before .before .loop .i) (c .before .before .before .before .before .before .before .loop .room) (c .before .before .before .before .before .before .before .loop .inv .1 .1 .1 .1 t known sound) (c .before .before .before .before .before .before .next-word .result .start) (c .before .before .before .before .before .before .next-word .result .end) (c .before .before .before .before .before .before .next-word .ensures) (let o = (c .before .before .before .before .before .before .next-word .ensures) .word .from in let l = (c .before .before .before .before .before .before .next-word .ensures) .word .within in omega (arith, o, l, c .before .before .before .before .before .if1 .left)) (finds-zero t (c .before .before .before .before .before .before .before .loop .held) (take (c .before .before .before .before .before .before .next-word .result .end - c .before .before .before .before .before .before .next-word .result .start) (drop (c .before .before .before .before .before .before .next-word .result .start) ((c .before .before .before .before .before .before .before .before .before .before .before .before .before .before .before .args .children) .now))) (c .before .before .find .result .0) (c .before .before .find .ensures .1 t (c .before .before .before .before .before .before .before .loop .held) (known .named-so) (λ x. c .before .before .before .before .nexts .ensures x ∙ known .nexts (c .before .before .before .before .before .before .before .loop .held) x)) (c .if2 .taken)) })
+
+lay-requires : tie.Need-lay-requires Inv-loop μ-loop
+lay-requires c κs = omega (arith, c .before .before .before .find .ensures .0, c .before .before .before .before .before .before .before .before .before .before .before .before .before .before .before .before .pre .0 .few)
+
+add-placed : tie.Need-add-placed Inv-loop μ-loop
+add-placed c = omega (arith, c .before .before .before .before .before .before .before .before .before .before .before .loop .inv .0, c .before .before .before .before .before .before .before .before .before .before .before .loop .inv .1 .0, c .before .before .before .before .before .before .before .before .before .before .before .before .before .before .before .before .before .before .before .pre .1 .1 .0)
+
+loop-less : tie.Need-loop-less Inv-loop μ-loop
+loop-less c = let w = (c .before .before .before .before .before .before .before .before .before .before .next-word .ensures) .word in let k = (c .before .before .before .before .before .before .before .before .before .before .next-word .ensures) .skipped .from in let o = (c .before .before .before .before .before .before .before .before .before .before .next-word .ensures) .some (let o = (c .before .before .before .before .before .before .before .before .before .before .next-word .ensures) .word .from in let l = (c .before .before .before .before .before .before .before .before .before .before .next-word .ensures) .word .within in omega (arith, o, l, c .before .before .before .before .before .before .before .before .before .if1 .left)) in omega (arith, w .within, k, o)
+
+loop-again : tie.Need-loop-again Inv-loop μ-loop
+loop-again c = let w = (c .before .before .before .before .before .before .before .before .before .before .next-word .ensures) .word in let k = (c .before .before .before .before .before .before .before .before .before .before .next-word .ensures) .skipped .from in let o = (c .before .before .before .before .before .before .before .before .before .before .next-word .ensures) .some (let o = (c .before .before .before .before .before .before .before .before .before .before .next-word .ensures) .word .from in let l = (c .before .before .before .before .before .before .before .before .before .before .next-word .ensures) .word .within in omega (arith, o, l, c .before .before .before .before .before .before .before .before .before .if1 .left)) in (w .within, (omega (arith, c .before .before .before .before .before .before .before .before .before .before .before .loop .inv .1 .0, k, o), (c .before .before .before .before .before .before .find .ensures .0, (c .before .before .lay .kept .0 ∙ c .before .before .before .before .before .before .before .before .before .before .before .loop .inv .1 .1 .1 .0, λ t known sound. going-on t ((c .before .before .before .before .before .before .before .before .before .before .before .before .before .before .before .before .before .before .before .args .children) .now) ((c .before .before .before .before .before .before .before .before .before .before .before .before .before .before .before .before .before .before .before .args .room) .now) (c .before .before .before .before .before .before .before .before .before .before .before .loop .placed) (c .before .before .before .before .before .before .before .before .before .before .before .loop .held) (c .before .before .before .before .before .before .before .before .before .before .before .loop .i) (c .before .before .before .before .before .before .before .before .before .before .before .loop .room) (c .before .before .before .before .before .before .before .before .before .before .before .loop .inv .1 .1 .1 .1 t known sound) (c .before .before .before .before .before .before .before .before .before .before .next-word .result .start) (c .before .before .before .before .before .before .before .before .before .before .next-word .result .end) (c .before .before .before .before .before .before .before .before .before .before .next-word .ensures) (let o = (c .before .before .before .before .before .before .before .before .before .before .next-word .ensures) .word .from in let l = (c .before .before .before .before .before .before .before .before .before .before .next-word .ensures) .word .within in omega (arith, o, l, c .before .before .before .before .before .before .before .before .before .if1 .left)) (c .before .before .before .before .before .before .find .result .0) _ (finds-some t (c .before .before .before .before .before .before .before .before .before .before .before .loop .held) (take (c .before .before .before .before .before .before .before .before .before .before .next-word .result .end - c .before .before .before .before .before .before .before .before .before .before .next-word .result .start) (drop (c .before .before .before .before .before .before .before .before .before .before .next-word .result .start) ((c .before .before .before .before .before .before .before .before .before .before .before .before .before .before .before .before .before .before .before .args .children) .now))) (c .before .before .before .before .before .before .find .result .0) (c .before .before .before .before .before .before .find .ensures .1 t (c .before .before .before .before .before .before .before .before .before .before .before .loop .held) (known .named-so) (λ x. c .before .before .before .before .before .before .before .before .nexts .ensures x ∙ known .nexts (c .before .before .before .before .before .before .before .before .before .before .before .loop .held) x)) (c .before .before .before .before .if2 .left)) (c .before .before .lay .ensures)))))
+
+pub place-children-spec : {M : Type 1} → statement M
+place-children-spec =
+    tie.close
+    (tie.spec
+    Inv-loop
+    μ-loop
+    loop-holds
+    next-word-requires
+    same-length
+    returns
+    nexts-requires
+    sub-find
+    part-find-start
+    part-find-end
+    find-requires
+    same-length-2
+    returns-2
+    lay-requires
+    add-placed
+    loop-less
+    loop-again)
