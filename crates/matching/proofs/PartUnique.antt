@@ -93,9 +93,9 @@ module _ (table children : Bytes) where
 
 -- and so are the bytes, the block and the offset
 is-same : (p : Part) (table children r q : RefT (List ℕ)) → Is p table children r → Is p table children q → SamePart r q
-is-same (OfChildren a e) table children r q h k = part-same children r q a e h k
-is-same (OfTable a e) table children r q h k = part-same table r q a e h k
-is-same AtEnd table children r q h k = part-same children r q (length (now children)) (length (now children)) h k
+is-same (OfChildren a e) table children r q h k = part-same children r q a (e - a) h k
+is-same (OfTable a e) table children r q h k = part-same table r q a (e - a) h k
+is-same AtEnd table children r q h k = part-same children r q (length (now children)) 0 h k
 
 pub part-answer-unique : (table children r q : RefT (List ℕ)) → PartAnswer table children r → PartAnswer table children q → SamePart r q
 part-answer-unique table children r q h k =

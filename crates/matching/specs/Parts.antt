@@ -44,11 +44,15 @@ pub data PartWhere (table children : Bytes) : Part → Type 0 where
       a ≡ nameStart (m .model) (numberAt (m .model) (s .0)) →
       PartWhere table children (OfTable a (a + length (named (m .model) (s .0))))
 
--- r is that part
+-- r is the part of s that figures tell
+abbrev PartOf : RefT (List ℕ) → Figures → RefT (List ℕ) → Type 0
+PartOf s f r = IsPart s (f .a) (f .b) r
+
+-- r is that part of what was lent
 abbrev pub Is : Part → RefT (List ℕ) → RefT (List ℕ) → RefT (List ℕ) → Type 0
-Is (OfChildren a e) table children r = IsPart children a e r
-Is (OfTable a e) table children r = IsPart table a e r
-Is AtEnd table children r = IsPart children (length (now children)) (length (now children)) r
+Is (OfChildren a e) table children r = PartOf children (partFigures (OfChildren a e)) r
+Is (OfTable a e) table children r = PartOf table (partFigures (OfTable a e)) r
+Is AtEnd table children r = IsPart children (length (now children)) 0 r
 
 -- what the name part is: its bytes, and where it points
 pub record PartAnswer (table children r : RefT (List ℕ)) : Type 0 where

@@ -20,8 +20,8 @@ pub record SamePart (r s : RefT (List ℕ)) : Type 0 where
   pub block : ptr r .0 ≡ ptr s .0
   pub offset : ptr r .1 ≡ ptr s .1
 
-pub part-same : (s r q : RefT (List ℕ)) (a e : ℕ) → IsPart s a e r → IsPart s a e q → SamePart r q
-part-same s r q a e h k = record {
+pub part-same : (s r q : RefT (List ℕ)) (a n : ℕ) → IsPart s a n r → IsPart s a n q → SamePart r q
+part-same s r q a n h k = record {
   bytes = h .bytes ∙ sym (k .bytes);
   block = h .block ∙ sym (k .block);
   offset = h .offset ∙ sym (k .offset);
@@ -51,8 +51,8 @@ pub slot-name-unique :
     (table : RefT (List ℕ)) (s : ℕ) (r q : RefT (List ℕ)) → NameAnswer table s r → NameAnswer table s q → SamePart r q
 slot-name-unique table s r q h k =
     let e = stands-unique (now table) s (k .start) (k .end) (h .start) (h .end) (k .says) (h .says) in
-    part-same table r q (h .start) (h .end) (h .is)
-    (subst (λ a. IsPart table a (h .end) q) (e .0) (subst (λ z. IsPart table (k .start) z q) (e .1) (k .is)))
+    part-same table r q (h .start) (h .end - h .start) (h .is)
+    (subst (λ a. IsPart table a (h .end - a) q) (e .0) (subst (λ z. IsPart table (k .start) (z - k .start) q) (e .1) (k .is)))
 
 -- and the bytes are the slot's name
 pub slot-name-says :

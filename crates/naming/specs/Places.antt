@@ -10,9 +10,9 @@ use Rattle.meaning.specs.Slots.{named}
 use Rattle.names.specs.Bytes.{Bytes}
 use Rattle.table.specs.Encoding.{sameBytes, index, names}
 
--- r is the part of s from a to e: those bytes, in the same block, at that place
-pub record IsPart (s : RefT (List ℕ)) (a e : ℕ) (r : RefT (List ℕ)) : Type 0 where
-  pub bytes : now r ≡ take (e - a) (drop a (now s))
+-- r is the part of s that starts at a and has n bytes: those bytes, in the same block, at that place
+pub record IsPart (s : RefT (List ℕ)) (a n : ℕ) (r : RefT (List ℕ)) : Type 0 where
+  pub bytes : now r ≡ take n (drop a (now s))
   pub block : ptr r .0 ≡ ptr s .0
   pub offset : ptr r .1 ≡ ptr s .1 + a
 

@@ -1,7 +1,7 @@
 -- The name of a slot, as a part of the table (document 01, "Model text" and "Tree table"). Assumes nothing.
 use mathlib.Core.List.{List}
 use mathlib.Core.Path.{_≡_}
-use Prim.Native.Nat.{ℕ, _+_, _≤_}
+use Prim.Native.Nat.{ℕ, _+_, _-_, _≤_}
 use lib.ListN.{length}
 use denote.Ref.{RefT, now}
 use Rattle.model.specs.declared.Refusal.{Refusal}
@@ -30,4 +30,4 @@ pub record NameAnswer (table : RefT (List ℕ)) (s : ℕ) (r : RefT (List ℕ)) 
   pub start : ℕ
   pub end : ℕ
   pub says : NameStands (now table) s start end
-  pub is : IsPart table start end r
+  pub is : IsPart table start (end - start) r

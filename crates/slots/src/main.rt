@@ -135,7 +135,7 @@ fn line_end(text: &[u8]) -> usize
     i
 }
 
-// 20,482 bytes tell all: a model text and a child text that are each one byte too long, and the line feed.
+// 20,482 bytes tell all: a model text, the line feed, and a child text that is one byte too long.
 fn main() {
     let mut buf = io::large_buffer();
     let n = io::read_full(0, &mut buf);

@@ -1,6 +1,8 @@
 -- `matching::name_part` meets its contract. Assumes nothing.
 use borrow.Author.Needs.{needs}
-use mathlib.Core.Path.{subst}
+use mathlib.Core.Path.{_≡_, ap, subst}
+use Prim.Native.Nat.{_-_}
+use lib.ListN.{length, take, drop}
 use native.Mathlib.Omega.{arith}
 use Rattle.matching.specs.Parts.{PartWhere}
 use Rattle.matching.specs.declared.Part.the-variants.{OfChildren, OfTable, AtEnd}
@@ -54,7 +56,15 @@ returns-2 : tie.Need-returns-2
 returns-2 c = record { place = OfTable (c .before .before .part2 .given .0 .0) (c .before .before .part2 .given .0 .1 .0); says = subst (PartWhere (c .before .before .before .before .before .before .before .args .table .now) (c .before .before .before .before .before .before .before .args .children .now)) (c .before .before .part2 .given .1) (c .before .before .before .before .part-of .ensures); is = search needs }
 
 returns-3 : tie.Need-returns-3
-returns-3 c = record { place = AtEnd; says = subst (PartWhere (c .before .before .before .before .before .before .args .table .now) (c .before .before .before .before .before .before .args .children .now)) (c .before .enum-told .given .1) (c .before .before .before .part-of .ensures); is = search needs }
+returns-3 c =
+    let a = c .before .before .before .before .before .before .args in
+    let s = a .children .now in
+    let z : length s - length s ≡ 0 = omega arith in
+    record {
+      place = AtEnd;
+      says = subst (PartWhere (a .table .now) s) (c .before .enum-told .given .1) (c .before .before .before .part-of .ensures);
+      is = record { bytes = ap (λ n. take n (drop (length s) s)) z; block = search needs; offset = search needs };
+    }
 
 pub name-part-spec : {M : Type 1} → statement M
 name-part-spec =
