@@ -58,7 +58,7 @@ loop-less : tie.Need-loop-less Inv-loop μ-loop
 loop-less c = search needs
 
 loop-again : tie.Need-loop-again Inv-loop μ-loop
-loop-again c = let b : c .number-at .result .0 < nameCountLimit = omega (arith, c .number-at .ensures .is, (c .before .before .before .before .before .pre .1 .1 .1 (c .before .before .loop .x - 1) (omega arith))) in (search needs, (omega (arith, length-set (c .before .before .loop .later) (c .before .before .loop .x - 1) (getD (c .before .before .loop .seen) (c .number-at .result .0) 0)), (omega (arith, length-set (c .before .before .loop .seen) (c .number-at .result .0) (c .before .before .loop .x)), (link (c .before .before .before .before .before .args .names .now) (c .before .before .loop .later) (c .before .before .loop .seen) (c .before .before .before .before .before .args .slots) (c .before .before .loop .x) (c .number-at .result .0) (search needs) (search needs) (c .number-at .ensures .is) (c .before .before .loop .inv .1 .1 .1 .0) (c .before .before .loop .inv .1 .1 .1 .1) (search needs) b, see (c .before .before .before .before .before .args .names .now) (c .before .before .loop .later) (c .before .before .loop .seen) (c .before .before .before .before .before .args .slots) (c .before .before .loop .x) (c .number-at .result .0) (search needs) (search needs) (c .number-at .ensures .is) (c .before .before .loop .inv .1 .1 .1 .1) (omega (arith, b))))))
+loop-again c = let b : c .number-at .result .0 < nameCountLimit = omega (arith, c .number-at .ensures .is, (c .before .before .before .before .before .pre .1 .1 .1 (c .before .before .loop .x - 1) (omega arith))) in (search needs, (simp length-set (omega arith), (simp length-set (omega arith), (link (c .before .before .before .before .before .args .names .now) (c .before .before .loop .later) (c .before .before .loop .seen) (c .before .before .before .before .before .args .slots) (c .before .before .loop .x) (c .number-at .result .0) (search needs) (search needs) (c .number-at .ensures .is) (c .before .before .loop .inv .1 .1 .1 .0) (c .before .before .loop .inv .1 .1 .1 .1) (search needs) b, see (c .before .before .before .before .before .args .names .now) (c .before .before .loop .later) (c .before .before .loop .seen) (c .before .before .before .before .before .args .slots) (c .before .before .loop .x) (c .number-at .result .0) (search needs) (search needs) (c .number-at .ensures .is) (c .before .before .loop .inv .1 .1 .1 .1) (omega (arith, b))))))
 
 same-length : tie.Need-same-length Inv-loop μ-loop
 same-length c = search needs
