@@ -1,8 +1,7 @@
 -- The words of a text are what cutting it at white space gives, and no other. Assumes nothing.
-use mathlib.Core.Bool.{true, false, cond}
+use mathlib.Core.Bool.{true, false}
 use mathlib.Core.List.{List, [], _∷_, _++_, append-assoc, append-nil}
 use mathlib.Core.Path.{_≡_, refl, sym, _∙_, ap}
-use Prim.Native.Nat.{ℕ}
 use Rattle.names.specs.Bytes.{Bytes, space, nameByte}
 use Rattle.names.specs.Names.{Each, Name}
 use Rattle.children.specs.Words.{Words, none, gap, last, name}

@@ -1,5 +1,5 @@
 -- The first fault of a text, found byte by byte, is its fault of the least place; where there is none the text is its words. Assumes nothing.
-use mathlib.Core.Bool.{Bool, true, false, cond, true≢false, false≢true}
+use mathlib.Core.Bool.{true, false, cond, true≢false}
 use mathlib.Core.List.{List, [], _∷_, _++_, append-assoc, append-nil}
 use mathlib.Core.Logic.{_⊎_, inl, inr}
 use mathlib.Core.Path.{_≡_, refl, sym, _∙_, ap, ap₂, subst}
@@ -11,11 +11,11 @@ use borrow.Author.Tests.{eqb-true, eqb-false, ne-eqb}
 use lib.Dec.{eqb}
 use lib.ListN.{length, getD, take, drop, length-append}
 use lib.Seq.{take-suc}
-use Rattle.model.specs.Limits.{nameLimit, childrenLimit}
+use Rattle.model.specs.Limits.{nameLimit}
 use Rattle.model.specs.Refusals.{placeOf}
 use Rattle.model.specs.declared.Refusal.{Refusal}
 use Rattle.model.specs.declared.Refusal.the-variants.{ChildByte, ChildTooLong}
-use Rattle.names.specs.Bytes.{Bytes, space, startByte, nameByte}
+use Rattle.names.specs.Bytes.{Bytes, space, nameByte}
 use Rattle.names.specs.Names.{Each, Starts, Name}
 use Rattle.names.proofs.Places.{split, at-next, at-end}
 use Rattle.children.specs.Words.{Words, none, gap, last, name}

@@ -1,8 +1,8 @@
 -- What users rely on: each child text is names in one way, or has one refusal, and never both. Assumes nothing.
 use mathlib.Core.Bool.{true, false, true≢false}
-use mathlib.Core.List.{List, []}
+use mathlib.Core.List.{List}
 use mathlib.Core.Path.{_≡_, refl, sym, ap, subst, _∙_}
-use Prim.Native.Nat.{ℕ, _≤_, _<_}
+use Prim.Native.Nat.{_≤_}
 use native.Mathlib.Omega.{arith}
 use lib.ListN.{length, getD, take}
 use Rattle.model.specs.Limits.{nameLimit, childrenLimit}
@@ -11,8 +11,8 @@ use Rattle.model.specs.declared.Refusal.{Refusal}
 use Rattle.model.specs.declared.Refusal.the-variants.{ChildByte, ChildTooLong}
 use Rattle.names.specs.Bytes.{Bytes, nameByte}
 use Rattle.children.specs.Words.{Words}
-use Rattle.children.specs.Faults.{endRun, right, Fault, byte, long, FirstFault, Refused, too-long, first}
-use Rattle.children.specs.Inner.Splitting.{cut, judge, CheckAnswer}
+use Rattle.children.specs.Faults.{endRun, right, Fault, byte, long, Refused, too-long, first}
+use Rattle.children.specs.Inner.Splitting.{judge, CheckAnswer}
 use Rattle.children.specs.declared.Checked.{Checked}
 use Rattle.children.specs.declared.Checked.the-variants.{Fine, Refused as Stop}
 use Rattle.children.proofs.Cutting.{cut-correct}

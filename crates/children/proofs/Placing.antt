@@ -1,14 +1,14 @@
 -- A child stands at one place only: from there on, its bytes are those of the names from it on. Assumes nothing.
-use mathlib.Core.Bool.{Bool, true, false, cond, true≢false}
+use mathlib.Core.Bool.{false, cond}
 use mathlib.Core.List.{List, [], _∷_, _++_}
-use mathlib.Core.Path.{_≡_, refl, sym, ap, subst, _∙_}
+use mathlib.Core.Path.{_≡_, refl, sym, ap, _∙_}
 use Prim.Native.Nat.{ℕ, zero, suc, _+_, _-_, _≤_, _<_}
 use native.Mathlib.Omega.{arith}
 use native.Mathlib.Decide.{decLt}
 use lib.ListN.{length, getD, take, drop, length-append, length-drop, length-take}
 use lib.Seq.{drop-drop, drop-cons, getD-take, getD-drop, length-take-le}
-use Rattle.names.specs.Bytes.{Bytes, space, startByte, nameByte}
-use Rattle.names.specs.Names.{Each, Starts, Name}
+use Rattle.names.specs.Bytes.{Bytes, space}
+use Rattle.names.specs.Names.{Each, Name}
 use Rattle.names.proofs.Places.{split}
 use Rattle.children.specs.Words.{Words, none, gap, last, name}
 use Rattle.children.specs.Inner.Splitting.{flush, cut}

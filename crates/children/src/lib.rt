@@ -1,9 +1,7 @@
 // Child text: its check, refusals 21 to 23, and its words one by one.
 ghost use mathlib.Core.Path.{_≡_};
-ghost use mathlib.Core.Bool.{true, false};
-ghost use mathlib.Core.List.{[]};
 ghost use Prim.Native.Nat.{_≤_, _<_};
-ghost use lib.ListN.{length, drop};
+ghost use lib.ListN.{length};
 ghost use Rattle.children.specs.Faults.{right};
 ghost use Rattle.children.specs.Inner.Splitting.{judge, CheckAnswer, Skipped, WordEnd, NextWord};
 use model::Model;

@@ -1,9 +1,8 @@
 -- The cases of document 01 that are marked P hold: one computed test, and one law that turns it into what the meaning
 -- says. Assumes nothing.
-use mathlib.Core.Bool.{Bool, true, false}
 use mathlib.Core.List.{List, [], _∷_, map, head-eq-of-cons-eq, tail-eq-of-cons-eq, nil≢cons}
 use mathlib.Core.Option.{Option, none, some}
-use mathlib.Core.Path.{_≡_, refl, sym, ap, subst, _∙_}
+use mathlib.Core.Path.{_≡_, refl, subst}
 use Prim.Native.Nat.{ℕ}
 use native.Mathlib.Omega.{arith}
 use Rattle.model.specs.declared.Slot.{Slot}
@@ -18,7 +17,7 @@ use Rattle.children.specs.Inner.Splitting.{cut, judge}
 use Rattle.children.specs.declared.Checked.{Checked}
 use Rattle.children.specs.declared.Checked.the-variants.{Fine, Refused as Bad}
 use Rattle.children.proofs.Judging.{fine-words}
-use Rattle.grammar.specs.Faults.{Reads, count}
+use Rattle.grammar.specs.Faults.{count}
 use Rattle.grammar.specs.Inner.Machine.{class, step, stepAt}
 use Rattle.grammar.specs.Inner.Judge.{read, refused, verdict}
 use Rattle.grammar.specs.Inner.Judge

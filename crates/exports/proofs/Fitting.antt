@@ -1,15 +1,15 @@
 -- The figures of each answer that a function permits fit their bits. Assumes nothing.
 use mathlib.Core.List.{List}
 use mathlib.Core.Path.{_≡_, refl, sym, ap, subst}
-use Prim.Native.Nat.{ℕ, _+_, _-_, _^_, _≤_, _<_}
+use Prim.Native.Nat.{ℕ, _≤_, _<_}
 use native.Mathlib.Omega.{arith}
 use lib.ListN.{length}
-use Rattle.model.specs.Limits.{textLimit, childrenLimit, slotLimit, nodeLimit, tableRoom}
+use Rattle.model.specs.Limits.{textLimit, childrenLimit, slotLimit}
 use Rattle.model.specs.Refusals.{figuresOf}
 use Rattle.model.specs.declared.Refusal.{Refusal}
 use Rattle.meaning.specs.Trees.{Tree, leaves}
-use Rattle.meaning.specs.Clashes.{ending, Clash, FirstClash}
-use Rattle.meaning.specs.Runs.{Marks, Held, Next, Run, here, move}
+use Rattle.meaning.specs.Clashes.{ending, FirstClash}
+use Rattle.meaning.specs.Runs.{Marks, Next, Run, here, move}
 use Rattle.meaning.proofs.Clashes.{next-goes, goes-within, goes-from, clash-correct}
 use Rattle.meaning.proofs.Runs.{run-held}
 use Rattle.names.specs.Bytes.{Bytes}
@@ -17,8 +17,7 @@ use Rattle.children.specs.Faults.{Refused, too-long, first}
 use Rattle.children.specs.Faults as Children
 use Rattle.children.proofs.Placing.{words-few}
 use Rattle.grammar.specs.Faults
-use Rattle.table.specs.Models.{Loads, Lawful}
-use Rattle.table.specs.Refusals.{First, Fault, fault-11, fault-12, fault-13, fault-14, fault-15, fault-16, fault-17}
+use Rattle.table.specs.Refusals.{Fault, fault-11, fault-12, fault-13, fault-14, fault-15, fault-16, fault-17}
 use Rattle.table.proofs.Lawful.{names-few}
 use Rattle.reader.proofs.Lawful.{read-lawful}
 use Rattle.packing.proofs.Longest.{table-length}
@@ -34,8 +33,8 @@ use Rattle.verdict.specs.Verdicts.{JudgeAnswer, verdictFigures}
 use Rattle.verdict.specs.declared.Verdict.{Verdict}
 use Rattle.verdict.specs.declared.Verdict.the-variants.{Deterministic, Ambiguous, Refused as Unjudged}
 use Rattle.placing.specs.Passed.{NotPassed, refused, ambiguous}
-use Rattle.matching.specs.Matches.{Answers, MatchRefused, by-model, by-room, by-children, Placed, MatchAnswer}
-use Rattle.matching.specs.Steps.{StepRefused, by-slot, From, StepAnswer, steppedFigures}
+use Rattle.matching.specs.Matches.{Answers, MatchRefused, by-model, by-room, by-children, MatchAnswer}
+use Rattle.matching.specs.Steps.{StepRefused, by-slot, StepAnswer, steppedFigures}
 use Rattle.matching.specs.Steps
 use Rattle.matching.specs.Parts.{partFigures, PartWhere, stopped, short, short-at-start, allowed, bad-children}
 use Rattle.matching.specs.Parts
@@ -48,7 +47,6 @@ use Rattle.matching.specs.declared.Part.the-variants.{OfChildren, OfTable, AtEn
 use Rattle.matching.proofs.Parting.{part-children, part-table}
 use Rattle.writer.specs.Answers.{countedFigures}
 use Rattle.matching.specs.Matches.{matchedFigures}
-use Rattle.model.specs.declared.Figures.{Figures}
 use Rattle.telling.specs.Inner.Forward.{Forward}
 use Rattle.exports.specs.Inner.Fitting.{Fits}
 

@@ -14,6 +14,7 @@ use Rattle.model.specs.declared.Refusal.{Refusal}
 use Rattle.meaning.specs.Trees.{Tree, Members, leaves, all-leaves, depth, all-depth, nodes, all-nodes}
 use Rattle.names.specs.Bytes.{Bytes, startByte, nameByte}
 use Rattle.names.specs.Names.{Each, Name}
+use Rattle.names.proofs.Each.{each-left, each-right}
 use Rattle.grammar.specs.Faults
 use Rattle.grammar.specs.Grammar.{opening, closing, Marked, Gap, Later, Cp, Choice, Seq, More, Children, Model}
 use Rattle.grammar.specs.Faults.{Tally, nothing, count, counted, Fault, Reads}
@@ -104,14 +105,6 @@ module _ {d n k : ℕ} where
 
   close-any : {s : Bytes} → Any d n k s → Any (suc d) n k (closing ∷ s)
   close-any {s} f j = plain-back is-close refl refl (subst (λ x. Fits (L 0 x n k) s) (omega arith) (f 0))
-
-pub each-left : (P : Bytes → Type 0) (l r : List Bytes) → Each P (l ++ r) → Each P l
-each-left P [] r h = tt
-each-left P (x ∷ l) r h = (h .0, each-left P l r (h .1))
-
-pub each-right : (P : Bytes → Type 0) (l r : List Bytes) → Each P (l ++ r) → Each P r
-each-right P [] r h = h
-each-right P (x ∷ l) r h = each-right P l r (h .1)
 
 -- a phrase with the names ws, the depth e and v nodes fits, and counts n to m and k to i
 record Fit (d n k : ℕ) (ws : List Bytes) (e v m i : ℕ) : Type 0 where

@@ -13,7 +13,8 @@ use Rattle.grammar.specs.Grammar.{Children, Model}
 use Rattle.grammar.specs.Faults.{Reads}
 use Rattle.grammar.specs.Written.{strip, sign, written, joined, Within}
 use Rattle.grammar.proofs.Classes.{named-space, start-named}
-use Rattle.grammar.proofs.Within.{each-left, each-right, within-reads}
+use Rattle.names.proofs.Each.{each-left, each-right}
+use Rattle.grammar.proofs.Within.{within-reads}
 use Rattle.grammar.proofs.Limits.{reads-within}
 
 -- Forth: each phrase, without white space.

@@ -1,25 +1,24 @@
 -- From a walk to the answer on the children. Assumes nothing.
 use mathlib.Core.Bool.{Bool, true, false, true≢false}
-use mathlib.Core.List.{List, [], _∷_, _++_, append-nil}
-use mathlib.Core.Path.{_≡_, refl, sym, ap, ap₂, subst, _∙_}
-use Prim.Native.Nat.{ℕ, zero, suc, _+_, _-_, _≤_, _<_}
+use mathlib.Core.List.{List, [], _∷_, _++_}
+use mathlib.Core.Path.{_≡_, sym, ap, ap₂, subst, _∙_}
+use Prim.Native.Nat.{ℕ, _+_, _-_, _≤_, _<_}
 use native.Mathlib.Numerals.{add-one}
 use native.Mathlib.Omega.{arith}
-use lib.ListN.{length, getD, take, drop, length-map}
+use lib.ListN.{length, getD, take, length-map}
 use lib.Seq.{take-suc, take-length, length-take-le}
 use Rattle.model.specs.Limits.{slotRoom, childrenLimit}
 use Rattle.model.specs.declared.Slot.{Slot}
 use Rattle.model.specs.declared.Refusal.{Refusal}
 use Rattle.meaning.specs.Trees.{Tree}
-use Rattle.meaning.specs.Lists.{Allowed, Begins}
-use Rattle.meaning.specs.Slots.{Numbered, named}
+use Rattle.meaning.specs.Lists.{Begins}
+use Rattle.meaning.specs.Slots.{named}
 use Rattle.meaning.specs.Clashes.{ending, Ambiguous}
 use Rattle.meaning.specs.Runs.{Marks, Step, Ends}
 use Rattle.meaning.specs.Inner.Expressions.{slotted, ends}
 use Rattle.meaning.proofs.Main.{names-correct, ends-correct}
 use Rattle.meaning.proofs.Runs.{marks-allowed, marks-stop, marks-short}
 use Rattle.names.specs.Bytes.{Bytes}
-use Rattle.names.proofs.Places.{split}
 use Rattle.children.specs.Words.{Words}
 use Rattle.children.specs.Faults.{Refused}
 use Rattle.children.specs.Inner.Splitting.{cut, Sound, CheckAnswer}

@@ -1,8 +1,8 @@
 -- A whole list equals its steps, each from the slot before: of the step's own promise (demand 3). Assumes nothing.
-use mathlib.Core.List.{List, [], _∷_, _++_, map}
+use mathlib.Core.List.{List, _++_, map}
 use mathlib.Core.Logic.{_↔_}
 use mathlib.Core.Path.{_≡_, subst}
-use Prim.Native.Nat.{ℕ, _≤_, _<_}
+use Prim.Native.Nat.{ℕ, _≤_}
 use native.Mathlib.Omega.{arith}
 use lib.ListN.{length}
 use Rattle.model.specs.declared.Slot.{Slot}
@@ -10,14 +10,13 @@ use Rattle.meaning.specs.Trees.{Tree, leaves}
 use Rattle.meaning.specs.Lists.{Begins}
 use Rattle.meaning.specs.Slots.{Numbered, named}
 use Rattle.meaning.specs.Clashes.{ending}
-use Rattle.meaning.specs.Runs.{Marks, Held, Step, Run, here, move}
+use Rattle.meaning.specs.Runs.{Held, Step, Run, here, move}
 use Rattle.meaning.proofs.Clashes.{goes-within, next-goes}
 use Rattle.meaning.proofs.Runs.{run-held, held-unique}
 use Rattle.meaning.proofs.Main.{run-begins}
 use Rattle.names.specs.Bytes.{Bytes}
 use Rattle.placing.specs.Passed.{Passed}
-use Rattle.matching.specs.Steps.{From, Steps, done, step}
-use Rattle.matching.specs.declared.Stepped.the-variants.{Next}
+use Rattle.matching.specs.Steps.{Steps, done, step}
 use Rattle.placing.proofs.Main.{passed-unique}
 
 slot : ℕ → Slot

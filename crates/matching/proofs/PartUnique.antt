@@ -1,22 +1,21 @@
 -- The name part is one only: its place, and so its bytes and where it points. Assumes nothing.
-use mathlib.Core.List.{List, [], _∷_}
+use mathlib.Core.List.{List, []}
 use mathlib.Core.Path.{_≡_, refl, sym, ap, ap₂, subst, _∙_}
-use Prim.Native.Nat.{ℕ, zero, suc, _+_, _-_, _≤_, _<_}
+use Prim.Native.Nat.{ℕ, zero, suc, _+_, _-_, _≤_}
 use native.Mathlib.Omega.{arith}
-use lib.ListN.{length, getD, take, drop}
+use lib.ListN.{length, getD, drop}
 use denote.Ref.{RefT, now}
-use Rattle.model.specs.declared.Slot.{Slot}
 use Rattle.model.specs.declared.Refusal.{Refusal}
 use Rattle.meaning.specs.Trees.{Tree}
 use Rattle.meaning.specs.Slots.{named}
 use Rattle.names.specs.Bytes.{Bytes}
-use Rattle.names.specs.Names.{Each, Name}
+use Rattle.names.specs.Names.{Name}
 use Rattle.children.specs.Words.{Words}
 use Rattle.children.specs.Places.{ChildAt}
 use Rattle.children.specs.Faults.{Refused}
 use Rattle.children.proofs.Main.{words-unique, words-not-refused}
 use Rattle.children.proofs.Placing.{place-unique, words-names}
-use Rattle.table.proofs.Numbering.{each-at}
+use Rattle.names.proofs.Each.{each-at}
 use Rattle.naming.specs.Places.{nameStart, numberAt}
 use Rattle.naming.proofs.Main.{SamePart, part-same}
 use Rattle.placing.specs.Passed.{Passed, NotPassed}

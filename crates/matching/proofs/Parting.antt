@@ -1,14 +1,12 @@
 -- Where the name part stands, by the walk over the children; and that it stands within what was lent. Assumes nothing.
 use mathlib.Core.Bool.{Bool, true, false}
-use mathlib.Core.List.{List, [], _∷_}
-use mathlib.Core.Path.{_≡_, refl, sym, ap, subst, _∙_}
-use Prim.Native.Nat.{ℕ, zero, suc, _+_, _-_, _≤_, _<_}
+use mathlib.Core.List.{List, []}
+use mathlib.Core.Path.{_≡_, sym, subst}
+use Prim.Native.Nat.{ℕ, _+_, _≤_}
 use native.Mathlib.Omega.{arith}
-use lib.ListN.{length, getD, take, drop}
+use lib.ListN.{length}
 use Rattle.model.specs.Limits.{childrenLimit}
-use Rattle.model.specs.declared.Slot.{Slot}
-use Rattle.meaning.specs.Trees.{Tree, leaves}
-use Rattle.meaning.specs.Slots.{named}
+use Rattle.meaning.specs.Trees.{Tree}
 use Rattle.meaning.specs.Inner.Expressions.{slotted, ends}
 use Rattle.names.specs.Bytes.{Bytes}
 use Rattle.children.specs.Words.{Words}

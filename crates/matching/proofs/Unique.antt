@@ -1,5 +1,5 @@
 -- Matching and a single step have one answer only, and leave one room only. Assumes nothing.
-use mathlib.Core.List.{List, [], _∷_, _++_, append-assoc}
+use mathlib.Core.List.{List, _++_, append-assoc}
 use mathlib.Core.Path.{_≡_, refl, sym, ap, ap₂, subst, _∙_}
 use Prim.Native.Nat.{ℕ, _-_, _≤_, _<_}
 use native.Mathlib.Omega.{arith}
@@ -7,19 +7,14 @@ use native.Mathlib.Decide.{decLt}
 use lib.ListN.{length, take, drop, take-append-drop}
 use lib.Seq.{take-take}
 use Rattle.model.specs.Limits.{slotRoom}
-use Rattle.model.specs.declared.Slot.{Slot}
 use Rattle.model.specs.declared.Refusal.{Refusal}
-use Rattle.model.specs.declared.Refusal.the-variants.{SlotRoom, NoSuchSlot}
 use Rattle.meaning.specs.Trees.{Tree, leaves}
 use Rattle.meaning.specs.Lists.{Allowed, Begins}
-use Rattle.meaning.specs.Slots.{Numbered, named}
 use Rattle.meaning.specs.Clashes.{ending, Ambiguous}
-use Rattle.meaning.specs.Runs.{Marks, Held, Step}
+use Rattle.meaning.specs.Runs.{Marks, Step}
 use Rattle.meaning.proofs.Runs.{held-begins, marks-unique, step-unique}
 use Rattle.names.specs.Bytes.{Bytes}
-use Rattle.children.specs.Words.{Words}
 use Rattle.children.proofs.Main.{words-unique, words-not-refused, refused-unique as children-unique}
-use Rattle.placing.specs.Passed.{Passed, NotPassed}
 use Rattle.placing.proofs.Main.{slot-unique, passed-unique, passed-free, not-passed-unique}
 use Rattle.matching.specs.Matches.{Says, Answers, MatchRefused, by-model, by-room, by-children, Placed, MatchAnswer}
 use Rattle.matching.specs.Steps.{StepRefused, by-slot, From, StepAnswer}

@@ -3,14 +3,13 @@
 use mathlib.Core.Bool.{Bool, true}
 use mathlib.Core.List.{List, [], _∷_, _++_, map}
 use mathlib.Core.Logic.{_↔_}
-use mathlib.Core.Option.{Option, none, some}
-use mathlib.Core.Path.{_≡_, subst}
+use mathlib.Core.Path.{_≡_}
 use Prim.Native.Nat.{ℕ, _<_}
 use Rattle.meaning.specs.Trees.{Tree}
 use Rattle.meaning.specs.Lists.{Allowed, Begins}
 use Rattle.meaning.specs.Slots.{Numbered, named}
 use Rattle.meaning.specs.Clashes.{ending, Ambiguous, Clash, FirstClash}
-use Rattle.meaning.specs.Runs.{Held, Next, Ends, Run}
+use Rattle.meaning.specs.Runs.{Next, Ends, Run}
 use Rattle.meaning.specs.Inner.Expressions.{slotted, nullable, first, final, follow, next, ends}
 use Rattle.meaning.proofs.Sets.{Walk}
 use Rattle.meaning.proofs.Witnesses.{null-shown, first-shown, final-shown, follow-shown, walk-shown}

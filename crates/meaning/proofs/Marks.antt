@@ -1,6 +1,6 @@
 -- How many lists a mark joins, by its two tests: whether it may join none, and whether it may join two. Assumes nothing.
-use mathlib.Core.Bool.{true, false, false≢true}
-use mathlib.Core.List.{List, [], _++_, append-nil}
+use mathlib.Core.Bool.{true, false≢true}
+use mathlib.Core.List.{List, append-nil}
 use mathlib.Core.Path.{_≡_, refl, subst}
 use Prim.Native.Nat.{ℕ, zero, suc, _≤_}
 use native.Mathlib.Omega.{arith}

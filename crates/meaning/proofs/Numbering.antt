@@ -1,8 +1,8 @@
 -- Slots: each stands once, and a list of names is allowed exactly where it is the names of an allowed numbered list. Assumes nothing.
-use mathlib.Core.List.{List, [], _∷_, _++_, map}
-use mathlib.Core.Logic.{_⊎_, inl, inr, _↔_}
-use mathlib.Core.Path.{_≡_, refl, sym, ap, ap₂, subst, _∙_}
-use Prim.Native.Nat.{ℕ, _+_, _-_, _≤_, _<_}
+use mathlib.Core.List.{List, _++_, map}
+use mathlib.Core.Logic.{inl, inr, _↔_}
+use mathlib.Core.Path.{_≡_, sym, ap, ap₂, subst, _∙_}
+use Prim.Native.Nat.{ℕ, _+_, _≤_, _<_}
 use native.Mathlib.Omega.{arith}
 use native.Mathlib.Nat.{add-zero, add-assoc}
 use lib.ListN.{length, getD, length-append, List·getD-append}
@@ -10,8 +10,8 @@ use lib.Seq.{getD-append-add}
 use Rattle.meaning.specs.Trees.{Tree, leaf, sequence, choice, Members, last, and, leaves, all-leaves, relabel, all-relabel}
 use Rattle.meaning.specs.Lists.{Allowed}
 use Rattle.meaning.specs.Slots.{slots, all-slots, Numbered, first-leaf, named}
-use Rattle.meaning.specs.Inner.Expressions.{Expr, expr, seqs, alts}
-use Rattle.meaning.proofs.Sets.{In, Apart, Linear}
+use Rattle.meaning.specs.Inner.Expressions.{expr, seqs, alts}
+use Rattle.meaning.proofs.Sets.{In, Linear}
 use Rattle.meaning.proofs.Relabel.{Image, relabel-correct}
 
 module _ {A : Type 0} where

@@ -2,13 +2,13 @@
 use mathlib.Core.List.{List, [], _∷_, _++_, map}
 use mathlib.Core.Logic.{_↔_}
 use mathlib.Core.Path.{_≡_, refl, sym, ap, ap₂, subst, _∙_}
-use Prim.Native.Nat.{ℕ, zero, suc, _+_, _-_, _≤_, _<_}
+use Prim.Native.Nat.{ℕ, zero, suc, _+_, _-_}
 use lib.ListN.{length, getD}
 use Rattle.meaning.specs.Trees.{Tree, leaf, sequence, choice, Members, last, and, leaves, all-leaves, relabel, all-relabel}
 use Rattle.meaning.specs.Slots.{slots, all-slots, Numbered, first-leaf, all-first-leaf, named}
 use Rattle.meaning.specs.Lists.{Allowed}
 use Rattle.meaning.specs.Clashes.{Ambiguous, Clash, FirstClash}
-use Rattle.meaning.specs.Inner.Expressions.{Expr, expr, slotted}
+use Rattle.meaning.specs.Inner.Expressions.{expr, slotted}
 use Rattle.meaning.proofs.Relabel.{map-append}
 
 module _ {A B : Type 0} (f : A → B) where

@@ -1,20 +1,18 @@
 -- Names read one by one. The slot that single steps hold is that of some allowed numbered list, and in a model that is not
 -- ambiguous it is the slot of all of them (demand 3). Assumes nothing.
-use mathlib.Core.Bool.{true}
 use mathlib.Core.List.{List, [], _∷_, _++_, map, append-nil, nil≢cons, head-eq-of-cons-eq, tail-eq-of-cons-eq}
 use mathlib.Core.Logic.{_↔_}
 use mathlib.Core.Path.{_≡_, refl, sym, _∙_, ap, ap₂, subst}
-use Prim.Native.Nat.{ℕ, zero, suc, _≤_, _<_, _+_}
+use Prim.Native.Nat.{ℕ, zero, suc, _≤_, _<_}
 use native.Mathlib.Omega.{arith}
 use native.Mathlib.Decide.{decLt}
-use lib.ListN.{length}
-use Rattle.meaning.specs.Trees.{Tree, leaves}
+use Rattle.meaning.specs.Trees.{Tree}
 use Rattle.meaning.specs.Lists.{Allowed, Begins}
 use Rattle.meaning.specs.Slots.{Numbered, named}
-use Rattle.meaning.specs.Clashes.{ending, Ambiguous, Clash}
-use Rattle.meaning.specs.Runs.{Marks, Held, Next, Ends, Step, Run, here, move}
+use Rattle.meaning.specs.Clashes.{ending, Ambiguous}
+use Rattle.meaning.specs.Runs.{Marks, Held, Ends, Step, Run, here, move}
 use Rattle.meaning.specs.Inner.Expressions.{slotted}
-use Rattle.meaning.proofs.Sets.{First, Final, Follow, Chain, stop, step, Walk, empty, start}
+use Rattle.meaning.proofs.Sets.{Final, Follow, Chain, stop, step, Walk, empty, start}
 use Rattle.meaning.proofs.Walks.{lang→walk, walk→lang}
 use Rattle.meaning.proofs.Witnesses.{some-word, first-shown, follow-shown, walk-from}
 use Rattle.meaning.proofs.Relabel.{map-append}

@@ -1,9 +1,8 @@
 -- A tree and its two-way form allow the same lists. Assumes nothing.
-use mathlib.Core.List.{List}
 use mathlib.Core.Path.{_≡_, refl, ap, ap₂}
 use Rattle.meaning.specs.Trees.{Tree, leaf, sequence, choice, Members, last, and}
 use Rattle.meaning.specs.Lists.{Join, Either, Marked, Allowed, InOrder, OneOf}
-use Rattle.meaning.specs.Inner.Expressions.{Expr, expr, seqs, alts}
+use Rattle.meaning.specs.Inner.Expressions.{expr, seqs, alts}
 use Rattle.meaning.proofs.Sets.{Lang}
 
 module _ {A : Type 0} where

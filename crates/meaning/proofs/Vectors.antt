@@ -1,9 +1,8 @@
 -- Worked examples of document 01 and document 004, computed by the search: a wrong definition shows here. Assumes nothing.
-use mathlib.Core.Option.{Option, none, some}
+use mathlib.Core.Option.{none, some}
 use mathlib.Core.Path.{_≡_, refl}
 use Prim.Native.Nat.{ℕ}
 use lib.Dec.{eqb}
-use Rattle.model.specs.declared.Mark.{Mark}
 use Rattle.model.specs.declared.Mark.the-variants.{Plain, Optional, Star, Plus}
 use Rattle.meaning.specs.Trees.{Tree, leaf, sequence, choice, last, and}
 use Rattle.meaning.specs.Inner.Expressions.{nullable, first, final, follow}

@@ -1,13 +1,13 @@
 -- A list is allowed exactly where it is a walk: it starts in first, goes by follow and ends in final. Assumes nothing.
 use mathlib.Core.Bool.{true}
 use mathlib.Core.List.{List, [], _∷_, _++_, append-nil}
-use mathlib.Core.Logic.{_⊎_, inl, inr}
-use mathlib.Core.Path.{_≡_, refl, subst}
+use mathlib.Core.Logic.{inl, inr}
+use mathlib.Core.Path.{_≡_, refl}
 use Prim.Native.Nat.{ℕ, suc, _≤_}
 use native.Mathlib.Omega.{arith}
 use Rattle.model.specs.declared.Mark.{Mark}
-use Rattle.meaning.specs.Lists.{Times, Only, only, Join, join, Either, left, right, Joined, none, more, Marked}
-use Rattle.meaning.specs.Inner.Expressions.{Expr, symbol, marked, seq, alt, skips, repeats}
+use Rattle.meaning.specs.Lists.{Times, only, Join, join, Either, left, right, Joined, none, more, Marked}
+use Rattle.meaning.specs.Inner.Expressions.{Expr, symbol, marked, seq, alt, repeats}
 use Rattle.meaning.proofs.Marks.{times-none, times-one, times-some, none-skips, more-repeats, joined-map}
 use Rattle.meaning.proofs.Sets.{Lang, Null, First, Final, Follow, In, Apart, Linear, Chain, stop, step, Walk, empty, start}
 

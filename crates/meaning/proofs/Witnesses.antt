@@ -1,7 +1,7 @@
 -- The empty-list question, first, final and follow: each is shown by a list that is allowed. And the exchange of tails. Assumes nothing.
 use mathlib.Core.List.{List, [], _∷_, _++_, append-nil, append-assoc}
-use mathlib.Core.Logic.{_⊎_, inl, inr, _↔_}
-use mathlib.Core.Path.{_≡_, refl, subst}
+use mathlib.Core.Logic.{inl, inr, _↔_}
+use mathlib.Core.Path.{subst}
 use Rattle.meaning.specs.Lists.{only, join, left, right, Joined, none, more}
 use Rattle.meaning.specs.Inner.Expressions.{Expr, symbol, marked, seq, alt}
 use Rattle.meaning.proofs.Marks.{times-none, times-more, once}

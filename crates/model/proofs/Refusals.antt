@@ -1,12 +1,11 @@
 -- A refusal is told by its number, its place and its values: no two say the same. Assumes nothing.
 use mathlib.Core.Bool.{cond}
-use mathlib.Core.List.{List, [], _∷_}
+use mathlib.Core.List.{List}
 use mathlib.Core.Path.{_≡_, refl, sym, ap, _∙_}
 use Prim.Native.Nat.{ℕ}
 use lib.Dec.{eqb}
 use lib.ListN.{getD}
 use Rattle.model.specs.Refusals.{numberOf, placeOf, valuesOf}
-use Rattle.model.specs.declared.Slot.{Slot}
 use Rattle.model.specs.declared.Refusal.{Refusal}
 use Rattle.model.specs.declared.Refusal.the-variants.{TextTooLong, TableRoom, UnknownByte, WrongByte, NameTooLong, TooDeep, TooManySlots, TooManyNodes, TableTooShort, BadCounts, BadNodes, BadNames, BadOrder, TooLarge, WrittenTooLong, TextRoom, ChildrenTooLong, ChildByte, ChildTooLong, Ambiguous, SlotRoom, NoSuchSlot}
 

@@ -19,7 +19,8 @@ use Rattle.table.specs.Inner.Draft.{Drafted}
 use Rattle.table.specs.Inner.Tests.{leavesOf}
 use Rattle.table.proofs.Folds.{leaves-words}
 use Rattle.table.proofs.Lawful.{names-few, numbers-small, numbers-size}
-use Rattle.table.proofs.Numbering.{numbers-below, each-at}
+use Rattle.names.proofs.Each.{each-at}
+use Rattle.table.proofs.Numbering.{numbers-below}
 use Rattle.table.proofs.Rows.{below-more}
 use Rattle.loader.specs.Answers.{LoadAnswer}
 use Rattle.loader.specs.declared.Loaded.{Loaded}

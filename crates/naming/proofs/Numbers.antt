@@ -11,7 +11,7 @@ use Rattle.names.specs.Bytes.{Bytes}
 use Rattle.names.specs.Names.{Each}
 use Rattle.table.specs.Encoding.{sameBytes, has, index, names, numbers}
 use Rattle.table.proofs.Firsts.{bytes-equality, at-index, index-below}
-use Rattle.table.proofs.Relabel.{each-left}
+use Rattle.names.proofs.Each.{each-left}
 use Rattle.table.proofs.Numbering.{all-named}
 use Rattle.naming.specs.Places.{numberAt}
 

@@ -1,21 +1,17 @@
 -- Fields put one behind another: what is left to put, put behind what was, is the whole. Assumes nothing.
 use mathlib.Core.List.{List, [], _∷_, _++_, append-nil}
 use mathlib.Core.Path.{_≡_, refl, sym, ap, _∙_}
-use Prim.Native.Nat.{ℕ, suc, _+_, _*_, _≤_}
+use Prim.Native.Nat.{ℕ, _+_, _*_, _≤_}
 use native.Mathlib.Omega.{arith}
-use lib.ListN.{length, take, drop, set, length-append}
+use lib.ListN.{length, take, drop, length-append}
 use lib.Seq.{paste, sets, sets-eq, length-sets, take-all}
+use Rattle.names.proofs.Places.{sets-append}
 use Rattle.fields.specs.Bits.{bitsOf, bitsN, Room}
 use Rattle.fields.proofs.Places.{bitsN-length, bits-length}
 use Rattle.names.specs.Bytes.{Bytes}
 use Rattle.table.specs.Fields.{Field, allBits}
 use Rattle.table.proofs.Packing.{bits-append-fields}
 use Rattle.packing.specs.Inner.Packing.{Fits, Put}
-
-sets-append : (o : List ℕ) (k : ℕ) (a b : List ℕ) → sets (sets o k a) (k + length a) b ≡ sets o k (a ++ b)
-sets-append o k [] b = ap (λ i. sets o i b) (omega arith)
-sets-append o k (x ∷ a) b =
-    ap (λ i. sets (sets (set o k x) (suc k) a) i b) (omega arith) ∙ sets-append (set o k x) (suc k) a b
 
 -- the bits of fields, one field more and one behind another
 pub length-field : (f : Field) (fs : List Field) → length (allBits (f ∷ fs)) ≡ f .width + length (allBits fs)

@@ -23,7 +23,7 @@ use Rattle.table.proofs.Words.{Words}
 use Rattle.table.proofs.Packing.{bytesOf, nameBytes, bits-append-fields, bits-word, tree-bits, words-small}
 use Rattle.table.proofs.Packing.{names-bytewise}
 use Rattle.table.proofs.Parts.{names-placed}
-use Rattle.table.proofs.Numbering.{each-at}
+use Rattle.names.proofs.Each.{each-at}
 use Rattle.table.proofs.Lawful.{names-few, numbers-values, numbers-small, numbers-size, names-lawful, table-bytes}
 use Rattle.table.proofs.Lawful.{table-bits}
 use Rattle.packing.specs.Inner.Packing.{words, Fits, Put, headerFields, wordFields, NodesReady, NamesReady}

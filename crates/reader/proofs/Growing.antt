@@ -6,6 +6,7 @@ use native.Mathlib.Numerals.{add-one}
 use native.Mathlib.Omega.{arith}
 use lib.ListN.{length, set, length-append, length-set}
 use lib.Seq.{sets, set-comm}
+use Rattle.names.proofs.Places.{sets-append}
 use Rattle.model.specs.Codes.{kindNumber, markNumber}
 use Rattle.model.specs.declared.Mark.{Mark}
 use Rattle.model.specs.declared.Model.{Model}
@@ -23,11 +24,6 @@ use Rattle.reader.proofs.Members.{leavesOf, nodesOf, wordsOf, firsts-ap
 use Rattle.reader.proofs.Members.{words-length, flat, Built, built}
 
 -- stores, one after the other, and one before them
-sets-append : (o : List ℕ) (k : ℕ) (a b : List ℕ) → sets (sets o k a) (k + length a) b ≡ sets o k (a ++ b)
-sets-append o k [] b = ap (λ i. sets o i b) (omega arith)
-sets-append o k (x ∷ a) b = ap (λ i. sets (sets (set o k x) (suc k) a) i b) (omega arith) ∙ sets-append (set o k x)
-    (suc k) a b
-
 set-sets : (o : List ℕ) (k j v : ℕ) (ws : List ℕ) → k < j → set (sets o j ws) k v ≡ sets (set o k v) j ws
 set-sets o k j v [] h = refl
 set-sets o k j v (x ∷ ws) h =

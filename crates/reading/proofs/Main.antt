@@ -6,7 +6,7 @@ use mathlib.Core.List.{_++_}
 use mathlib.Core.Path.{_≡_, refl, sym, ap, ap₂, subst, _∙_}
 use Prim.Native.Nat.{ℕ, _≤_}
 use native.Mathlib.Omega.{arith}
-use lib.ListN.{length, take, drop}
+use lib.ListN.{length, take, drop, length-append}
 use lib.Seq.{take-at}
 use Rattle.model.specs.Limits.{textLimit, tableRoom, textRoom}
 use Rattle.model.specs.declared.Refusal.{Refusal}
@@ -45,6 +45,17 @@ reads-not-told : {text room : Bytes} {t : Tree Bytes} {f : Refusal} → Reads te
 reads-not-told r a (fault-1 h) = let l = a .short in omega arith
 reads-not-told r a (fault-2 h k) = let l = a .wide in omega arith
 reads-not-told r a (of-text b h) = reads-not-refused r h
+
+-- a table that was read stands within its room
+pub read-within :
+    (text room : Bytes) (r : Outcome) (room′ : Bytes) (n : ℕ) → ReadAnswer text room r room′ → r ≡ Table n →
+    n ≤ length room′
+read-within text room r room′ n h e =
+    let a : ReadAnswer text room (Table n) room′ = subst (λ q. ReadAnswer text room q room′) e h in
+    let l = ap length (a .4) in
+    let k = length-append (encode (a .0)) (drop n room) in
+    let m = a .3 in
+    omega arith
 
 -- any two answers are the same, and so is what they leave in the room
 pub read-answer-unique :

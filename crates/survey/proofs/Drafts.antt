@@ -10,7 +10,8 @@ use Rattle.names.specs.Bytes.{Bytes}
 use Rattle.table.specs.Encoding.{numbers, names, sameBytes, index}
 use Rattle.table.specs.Models.{Lawful}
 use Rattle.table.specs.Inner.Draft.{Drafted}
-use Rattle.table.proofs.Relabel.{leaves-relabel, nodes-relabel}
+use Rattle.meaning.proofs.Renaming.{leaves-relabel}
+use Rattle.table.proofs.Relabel.{nodes-relabel}
 use Rattle.table.proofs.Lawful.{numbers-values, numbers-small}
 use Rattle.survey.specs.Inner.Finding.{Stands, Surveyed}
 use Rattle.survey.specs.declared.Survey.{Survey}

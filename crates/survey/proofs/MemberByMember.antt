@@ -19,7 +19,8 @@ use Rattle.survey.specs.Inner.Fours.{Four, of, four, join4, add4, mark4,
 use Rattle.draft.specs.Inner.Kinds.{isName}
 use Rattle.survey.specs.Inner.Finding.{isSequence, Stands, said, Tells, Found, Surveyed}
 use Rattle.survey.specs.declared.Survey.{Survey}
-use Rattle.survey.proofs.SaidOfPairs.{fours, join-assoc, join-none, add-over, add-same, mark-over, or-false}
+use Rattle.survey.proofs.SaidOfPairs.{fours, join-assoc, join-none, add-over, add-same, mark-over}
+use Rattle.slotset.proofs.BitsOfBytes.{or-false}
 use Rattle.survey.proofs.Standing.{kind, mark, slot-sum, group-of, kind-at, mark-at, group-at, stand-behind}
 
 -- ---- what the expression says, without its mark

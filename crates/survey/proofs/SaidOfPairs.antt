@@ -102,10 +102,6 @@ or-none true w = refl
 or-none false true = refl
 or-none false false = refl
 
-pub or-false : (a : Bool) → a ≡ (a || false)
-or-false true = refl
-or-false false = refl
-
 -- nothing so far
 pub join-none : (s b : Bool) (a : Four) → join4 s (of s false false b) a ≡ over4 b a
 join-none true b a = fours refl refl (last-none (a .l) (a .e)) (or-none b (a .w))

@@ -11,6 +11,8 @@ use lib.Seq.{take-suc, take-length, getD-append-seam}
 use Rattle.names.specs.Bytes.{Bytes}
 use Rattle.names.specs.Names.{Each}
 use Rattle.names.proofs.Places.{split}
+use Rattle.names.proofs.Each.{each-at}
+use Rattle.grammar.proofs.Classes.{is-false}
 use Rattle.table.specs.Encoding.{sameBytes, has, index, firsts}
 use Rattle.table.specs.Refusals.{Distinct, upto}
 
@@ -35,10 +37,6 @@ same-true [] (b ∷ t) e = no-false e
 same-true (a ∷ s) [] e = no-false e
 same-true (a ∷ s) (b ∷ t) e = let h = both (eqb a b) (sameBytes s t) e in
     ap₂ _∷_ (eqb-true a b (h .0)) (same-true s t (h .1))
-
-is-false : (b : Bool) → (b ≡ true → ⊥) → b ≡ false
-is-false true h = absurd (h refl)
-is-false false h = refl
 
 -- a test of equality
 pub record Equality {A : Type 0} (same : A → A → Bool) : Type 0 where
@@ -107,11 +105,6 @@ module _ {A : Type 0} (same : A → A → Bool) where
         split (same a b)
         (λ e. rw e (omega arith))
         (λ e. let r = index-below l a (rw e at h) in rw e (omega arith))
-
-    each-at : (P : A → Type 0) (l : List A) (i : ℕ) (d : A) → Each P l → i < length l → P (getD l i d)
-    each-at P [] i d p h = absurd (omega arith)
-    each-at P (a ∷ l) zero d p h = p .0
-    each-at P (a ∷ l) (suc i) d p h = each-at P l i d (p .1) (omega arith)
 
     -- where no two are equal, an element's index is where it stands
     pub index-at : (l : List A) (i : ℕ) (d : A) → Distinct l → i < length l → index same (getD l i d) l ≡ i

@@ -26,12 +26,14 @@ use Rattle.table.specs.Inner.Draft.{words, values}
 use Rattle.table.specs.Inner.Forest.{Below}
 use Rattle.table.specs.Inner.Tests.{cut}
 use Rattle.table.proofs.Firsts.{bytes-equality, index-below, firsts-each}
-use Rattle.table.proofs.Relabel.{each-imp, leaves-relabel, nodes-relabel, depth-relabel, group-relabel}
+use Rattle.meaning.proofs.Renaming.{leaves-relabel}
+use Rattle.names.proofs.Each.{each-imp, each-at, each-map}
+use Rattle.table.proofs.Relabel.{nodes-relabel, depth-relabel, group-relabel}
 use Rattle.table.proofs.Relabel.{size-nodes}
 use Rattle.table.proofs.Packing.{bytesOf, nameBytes, packed-tree, packed-names, packed-whole, whole-bits}
 use Rattle.table.proofs.Rows.{below-more, length-bytes}
 use Rattle.table.proofs.Parts.{cut-back}
-use Rattle.table.proofs.Numbering.{each-at, each-map, name, model-names, model-numbers, HasName, numberOf}
+use Rattle.table.proofs.Numbering.{name, model-names, model-numbers, HasName, numberOf}
 use Rattle.table.proofs.Numbering.{all-named, names-distinct, model-back, numbers-order, numbers-below}
 
 some-nodes : {A : Type 0} (t : Tree A) → 1 ≤ nodes t

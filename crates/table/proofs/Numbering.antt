@@ -16,16 +16,9 @@ use Rattle.table.specs.Refusals.{Distinct, upto, model}
 use Rattle.table.specs.Inner.Forest.{Below}
 use Rattle.table.proofs.Firsts.{bytes-equality, number-equality, at-index, index-below, index-at, firsts-has}
 use Rattle.table.proofs.Firsts.{firsts-distinct, firsts-map, length-upto, getD-upto, map-upto, eqb-self}
-use Rattle.table.proofs.Relabel.{each-imp, leaves-relabel, relabel-back}
-
-pub each-at : {A : Type 0} (P : A → Type 0) (l : List A) (i : ℕ) (d : A) → Each P l → i < length l → P (getD l i d)
-each-at P [] i d p h = absurd (omega arith)
-each-at P (a ∷ l) zero d p h = p .0
-each-at P (a ∷ l) (suc i) d p h = each-at P l i d (p .1) (omega arith)
-
-pub each-map : {A B : Type 0} (f : A → B) (P : B → Type 0) (l : List A) → Each (λ a. P (f a)) l → Each P (map f l)
-each-map f P [] e = tt
-each-map f P (a ∷ l) e = (e .0, each-map f P l (e .1))
+use Rattle.meaning.proofs.Renaming.{leaves-relabel}
+use Rattle.names.proofs.Each.{each-imp, each-map}
+use Rattle.table.proofs.Relabel.{relabel-back}
 
 getD-map : (f : Bytes → ℕ) (l : List Bytes) (i : ℕ) → i < length l → getD (map f l) i 0 ≡ f (getD l i [])
 getD-map f [] i h = absurd (omega arith)

@@ -31,7 +31,9 @@ use Rattle.table.specs.Inner.Draft.{words, values, kindOf, markOf, value
 use Rattle.table.specs.Inner.Forest.{Below}
 use Rattle.table.specs.Inner.Tests.{rows, whole, rooted, tidy, cut, apart, numberCons, leavesOf, ordered, nests}
 use Rattle.table.specs.Inner.Tests.{large, signs, own, total}
-use Rattle.table.proofs.Relabel.{each-imp, size-nodes, nodes-relabel, leaves-relabel}
+use Rattle.meaning.proofs.Renaming.{leaves-relabel}
+use Rattle.names.proofs.Each.{each-imp}
+use Rattle.table.proofs.Relabel.{size-nodes, nodes-relabel}
 use Rattle.table.proofs.Packing.{nameBytes, packed-names}
 use Rattle.table.proofs.Rows.{drawn-rows, drawn-length, drawn-whole, drawn-rooted, drawn-unique}
 use Rattle.table.proofs.Parts.{tidy-cut, cut-tidy, cut-back, apart-distinct, distinct-apart}

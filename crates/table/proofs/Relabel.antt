@@ -1,45 +1,14 @@
 -- Laws of trees with other names. Assumes nothing.
-use mathlib.Core.List.{List, [], _∷_, _++_, map}
-use mathlib.Core.Path.{_≡_, refl, sym, ap, ap₂, _∙_}
+use mathlib.Core.Path.{_≡_, refl, ap, ap₂, _∙_}
 use Prim.Native.Nat.{ℕ, suc, _+_, max}
 use lib.ListN.{length, length-append}
 use Rattle.meaning.specs.Trees.{Tree, leaf, sequence, choice, Members, last, and, Group, leaves, all-leaves, depth}
 use Rattle.meaning.specs.Trees.{all-depth, nodes, all-nodes, relabel, all-relabel}
 use Rattle.names.specs.Names.{Each}
+use Rattle.names.proofs.Each.{each-left, each-right}
 use Rattle.table.specs.Inner.Draft.{words, all-words}
 
-pub each-left : {A : Type 0} (P : A → Type 0) (l m : List A) → Each P (l ++ m) → Each P l
-each-left P [] m e = tt
-each-left P (a ∷ l) m e = (e .0, each-left P l m (e .1))
-
-pub each-right : {A : Type 0} (P : A → Type 0) (l m : List A) → Each P (l ++ m) → Each P m
-each-right P [] m e = e
-each-right P (a ∷ l) m e = each-right P l m (e .1)
-
-pub each-join : {A : Type 0} (P : A → Type 0) (l m : List A) → Each P l → Each P m → Each P (l ++ m)
-each-join P [] m e f = f
-each-join P (a ∷ l) m e f = (e .0, each-join P l m (e .1) f)
-
-pub each-imp : {A : Type 0} (P Q : A → Type 0) (l : List A) → ((a : A) → P a → Q a) → Each P l → Each Q l
-each-imp P Q [] h e = tt
-each-imp P Q (a ∷ l) h e = (h a (e .0), each-imp P Q l h (e .1))
-
 module _ {A B : Type 0} (f : A → B) where
-  map-join : (l m : List A) → map f (l ++ m) ≡ map f l ++ map f m
-  map-join [] m = refl
-  map-join (a ∷ l) m = ap (λ x. f a ∷ x) (map-join l m)
-
-  mutual
-    pub leaves-relabel : (t : Tree A) → leaves (relabel f t) ≡ map f (leaves t)
-    leaves-relabel (leaf m a) = refl
-    leaves-relabel (sequence m ts) = leaves-all ts
-    leaves-relabel (choice m t ts) = ap₂ _++_ (leaves-relabel t) (leaves-all ts)
-        ∙ sym (map-join (leaves t) (all-leaves ts))
-
-    leaves-all : (ts : Members A) → all-leaves (all-relabel f ts) ≡ map f (all-leaves ts)
-    leaves-all (last t) = leaves-relabel t
-    leaves-all (and t ts) = ap₂ _++_ (leaves-relabel t) (leaves-all ts) ∙ sym (map-join (leaves t) (all-leaves ts))
-
   mutual
     pub nodes-relabel : (t : Tree A) → nodes (relabel f t) ≡ nodes t
     nodes-relabel (leaf m a) = refl

@@ -12,7 +12,8 @@ use Rattle.table.specs.Refusals.{nodeCount, nameCount, Counted, Drawn}
 use Rattle.table.specs.Inner.Draft.{words, all-words, values}
 use Rattle.table.specs.Inner.Forest.{Below, parse}
 use Rattle.table.specs.Inner.Tests.{wordsOf, rows, whole, rooted}
-use Rattle.table.proofs.Relabel.{size-nodes, each-imp}
+use Rattle.names.proofs.Each.{each-imp}
+use Rattle.table.proofs.Relabel.{size-nodes}
 use Rattle.table.proofs.Words.{kind-word, parse-words, whole-words, count-size, some-word, Words, Grown, grown}
 use Rattle.table.proofs.Packing.{bytesOf, packed-tree}
 

@@ -14,7 +14,7 @@ use Rattle.names.specs.Names.{Each}
 use Rattle.table.specs.Inner.Draft.{word, words, all-words, values, kindOf, markOf, valueOf, asMark}
 use Rattle.table.specs.Inner.Forest.{gather, build, grow, parse, Below, AllBelow, forest, flat}
 use Rattle.table.specs.Inner.Tests.{fineKind, wants, fine, arity, whole}
-use Rattle.table.proofs.Relabel.{each-left, each-right, each-join}
+use Rattle.names.proofs.Each.{each-left, each-right, each-join}
 
 -- names below n, in the first member and in the others
 abbrev pub left : (n : ℕ) (t : Tree ℕ) (ts : Members ℕ) → Each (λ a. a < n) (leaves t ++ all-leaves ts) → Below n t

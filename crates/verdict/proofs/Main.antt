@@ -3,7 +3,6 @@ use mathlib.Core.Path.{_≡_, refl, ap, subst, _∙_}
 use Prim.Native.Nat.{ℕ}
 use Rattle.model.specs.declared.Slot.{Slot}
 use Rattle.meaning.specs.Trees.{Tree}
-use Rattle.meaning.specs.Clashes.{Ambiguous, FirstClash}
 use Rattle.meaning.proofs.Main.{ambiguous-clash, first-clash-unique}
 use Rattle.names.specs.Bytes.{Bytes}
 use Rattle.table.specs.Models.{Loads}

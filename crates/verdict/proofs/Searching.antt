@@ -10,7 +10,6 @@ use Rattle.meaning.specs.Trees.{Tree, leaves}
 use Rattle.meaning.specs.Slots.{named}
 use Rattle.meaning.specs.Clashes.{Ambiguous, Clash, FirstClash}
 use Rattle.meaning.specs.Runs.{Next}
-use Rattle.meaning.specs.Inner.Expressions.{slotted}
 use Rattle.meaning.proofs.Main.{clash-correct, ambiguous-clash, next-correct}
 use Rattle.meaning.proofs.Clashes.{goes-within, goes-from, next-goes}
 use Rattle.slotset.specs.Members.{member, pair}

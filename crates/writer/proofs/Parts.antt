@@ -14,7 +14,8 @@ use Rattle.grammar.specs.Written.{sign, written, joined}
 use Rattle.table.specs.Encoding.{names, numbers, sameBytes}
 use Rattle.table.specs.Inner.Draft.{nameAt, Drafted}
 use Rattle.table.specs.Inner.Forest.{Below, members, flat, rootOf}
-use Rattle.table.proofs.Relabel.{each-imp, relabel-back}
+use Rattle.names.proofs.Each.{each-imp}
+use Rattle.table.proofs.Relabel.{relabel-back}
 use Rattle.table.proofs.Words.{left, right}
 use Rattle.table.proofs.Firsts.{bytes-equality, at-index, index-below}
 use Rattle.table.proofs.Numbering.{HasName, numberOf, all-named}

@@ -1,6 +1,6 @@
 -- `examples_run::push_members` meets its contract: it ends. Assumes nothing.
 use borrow.Author.Needs.{needs}
-use Prim.Native.Nat.{_-_, _≤_}
+use Prim.Native.Nat.{_-_}
 use mathlib.Core.Path.{_≡_}
 use lib.ListN.{length}
 use Rattle.examples_run.proofs.push_members.Statement.{statement}

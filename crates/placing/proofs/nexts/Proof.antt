@@ -1,7 +1,7 @@
 -- `placing::nexts` meets its contract. Assumes nothing.
 use borrow.Author.Needs.{needs}
 use mathlib.Core.Path.{sym, _∙_}
-use Rattle.placing.proofs.Sets.{can-start, can-row}
+use Rattle.verdict.proofs.Searching.{can-start, can-row}
 use Rattle.placing.proofs.nexts.Statement.{statement}
 use Rattle.placing.proofs.nexts.Tie as tie
 

@@ -1,5 +1,5 @@
 -- `slots::put_answer` meets its contract. Assumes nothing.
-use Rattle.slots.proofs.Room.{table-within}
+use Rattle.reading.proofs.Main.{read-within}
 use borrow.Author.Needs.{needs}
 use Rattle.slots.proofs.put_answer.Statement.{statement}
 use Rattle.slots.proofs.put_answer.Tie as tie
@@ -30,7 +30,7 @@ slice-aggregate-put-model c = search needs
 
 put-model-requires : tie.Need-put-model-requires
 put-model-requires c κs =
-    table-within (c .before .before .before .before .before .before .before .before .before .args .text .now) _ (c .before .before .before .before .before .read .result) (c .before .before .before .before .before .read .last .1 .0) _ (c .before .before .before .before .before .read .ensures) (c .before .before .read3 .given .1)
+    read-within (c .before .before .before .before .before .before .before .before .before .args .text .now) _ (c .before .before .before .before .before .read .result) (c .before .before .before .before .before .read .last .1 .0) _ (c .before .before .before .before .before .read .ensures) (c .before .before .read3 .given .1)
 
 returns : tie.Need-returns
 returns c = search needs

@@ -1,6 +1,6 @@
 -- `verdict::can_follow` meets its contract. Assumes nothing.
 use borrow.Author.Needs.{needs}
-use mathlib.Core.Path.{_≡_, sym, _∙_}
+use mathlib.Core.Path.{sym, _∙_}
 use Rattle.verdict.proofs.Searching.{can-start, can-row}
 use Rattle.verdict.proofs.can_follow.Statement.{statement}
 use Rattle.verdict.proofs.can_follow.Tie as tie

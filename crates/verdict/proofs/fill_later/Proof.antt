@@ -3,7 +3,7 @@ use borrow.Author.Needs.{needs}
 use mathlib.Core.Path.{_≡_}
 use Prim.Native.Nat.{_+_, _-_, _≤_, _<_}
 use native.Mathlib.Omega.{arith}
-use lib.ListN.{length, getD, length-set, getD-replicate}
+use lib.ListN.{length, length-set, getD-replicate}
 use Rattle.model.specs.Limits.{slotLimit, nameCountLimit}
 use Rattle.verdict.proofs.Links.{LinkedAbove, Seen, none-seen, link, see}
 use Rattle.verdict.proofs.fill_later.Statement.{statement}

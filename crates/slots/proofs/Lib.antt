@@ -1,2 +1,0 @@
--- What a reading leaves in the room.
-pub mod Room
