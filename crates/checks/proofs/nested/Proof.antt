@@ -39,16 +39,21 @@ kind-of-requires : tie.Need-kind-of-requires Inv-loop μ-loop
 kind-of-requires c κs = search needs
 
 returns : tie.Need-returns Inv-loop μ-loop
-returns c = let l = c .before .before .before .before .before .before .before .before .loop in
-    let s = c .before .before .before .before .before .before .before .before .before .before .args .words .now in
-    let x : List ℕ = c .before .before .before .before .before .settled .last .0 in
-    let r : ℕ = c .before .before .before .before .before .settled .result in
+returns c =
+    let c5 = c .before .before .before .before .before in
+    let c7 = c5 .before .before in
+    let c8 = c7 .before in
+    let c10 = c8 .before .before in
+    let l = c8 .loop in
+    let s = c10 .args .words .now in
+    let x : List ℕ = c5 .settled .last .0 in
+    let r : ℕ = c5 .settled .result in
     let e : (r ≤ groupLimit) × ((length x ≡ groupLimit) × (stackOf x r ≡ settle (stackOf (l .stack) (l .d)))) =
-    c .before .before .before .before .before .settled .ensures in
-    let h : l .i < length s = c .before .before .before .before .before .before .before .loop-test .taken in
+    c5 .settled .ensures in
+    let h : l .i < length s = c7 .loop-test .taken in
     let y : groupLimit ≤ length (stackOf x r) = omega (arith, stack-length x r, c .if2 .taken) in
-    sym (nests-full s (l .i) h (stackOf (l .stack) (l .d)) (stackOf x r) (e .1 .1)
-    (rw (c .before .before .kind-of .ensures) at (c .before .if1 .taken)) y) ∙ l .inv .1 .1 .1
+    sym (nests-full s (l .i) h (stackOf (l .stack) (l .d)) (stackOf x r) (e .1 .1) (rw
+    (c .before .before .kind-of .ensures) at (c .before .if1 .taken)) y) ∙ l .inv .1 .1 .1
 
 value-of-requires : tie.Need-value-of-requires Inv-loop μ-loop
 value-of-requires c κs = search needs

@@ -38,16 +38,14 @@ is-fine-requires : tie.Need-is-fine-requires Inv-loop μ-loop
 is-fine-requires c κs = search needs
 
 returns-2 : tie.Need-returns-2 Inv-loop μ-loop
-returns-2 c = let f : fine (c .before .before .before .before .before .before .before .args .m)
-    (getD (c .before .before .before .before .before .before .before .args .words .now)
-    (c .before .before .before .before .before .loop .i) 0) ≡ false = sym (c .before .is-fine .ensures)
-    ∙ not-true _ (c .if2 .taken) in
-    (rw f at (sym (whole-at (c .before .before .before .before .before .before .before .args .words .now)
-    (c .before .before .before .before .before .loop .i)
-    (c .before .before .before .before .before .before .before .args .m)
-    (c .before .before .before .before .before .loop .want)
-    (c .before .before .before .before .loop-test .taken) (c .before .before .before .if1 .left))))
-    ∙ c .before .before .before .before .before .loop .inv .1 .1
+returns-2 c =
+    let c4 = c .before .before .before .before in
+    let c5 = c4 .before in
+    let c7 = c5 .before .before in
+    let f : fine (c7 .args .m) (getD (c7 .args .words .now) (c5 .loop .i) 0) ≡ false = sym
+    (c .before .is-fine .ensures) ∙ not-true _ (c .if2 .taken) in
+    (rw f at (sym (whole-at (c7 .args .words .now) (c5 .loop .i) (c7 .args .m) (c5 .loop .want) (c4 .loop-test .taken)
+    (c .before .before .before .if1 .left)))) ∙ c5 .loop .inv .1 .1
 
 sub-want : tie.Need-sub-want Inv-loop μ-loop
 sub-want c = search needs
@@ -65,23 +63,22 @@ loop-less : tie.Need-loop-less Inv-loop μ-loop
 loop-less c = search needs
 
 loop-again : tie.Need-loop-again Inv-loop μ-loop
-loop-again c = let f : fine (c .before .before .before .before .before .before .before .before .args .m)
-    (getD (c .before .before .before .before .before .before .before .before .args .words .now)
+loop-again c =
+    let f : fine (c .before .before .before .before .before .before .before .before .args .m) (getD
+    (c .before .before .before .before .before .before .before .before .args .words .now)
     (c .before .before .before .before .before .before .loop .i) 0) ≡ true = sym (c .before .before .is-fine .ensures)
     ∙ not-false _ (c .before .if2 .left) in
     let h = c .members .ensures .1 in (
       search needs,
       (
         omega arith,
-        rw (c .members .ensures .0)
-            ((rw f at
-            (sym (whole-at (c .before .before .before .before .before .before .before .before .args .words .now)
+        rw (c .members .ensures .0) ((rw f at (sym (whole-at
+            (c .before .before .before .before .before .before .before .before .args .words .now)
             (c .before .before .before .before .before .before .loop .i)
             (c .before .before .before .before .before .before .before .before .args .m)
             (c .before .before .before .before .before .before .loop .want)
-            (c .before .before .before .before .before .loop-test .taken)
-            (c .before .before .before .before .if1 .left))))
-            ∙ c .before .before .before .before .before .before .loop .inv .1 .1),
+            (c .before .before .before .before .before .loop-test .taken) (c .before .before .before .before .if1 .left)))) ∙
+            c .before .before .before .before .before .before .loop .inv .1 .1),
       ),
     )
 

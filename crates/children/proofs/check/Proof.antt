@@ -12,7 +12,8 @@ faults-requires : tie.Need-faults-requires
 faults-requires c κs = search needs
 
 returns-2 : tie.Need-returns-2
-returns-2 c = check-correct (c .before .before .before .args .text .now) (c .faults .result) (search needs) (c .faults .ensures)
+returns-2 c =
+    check-correct (c .before .before .before .args .text .now) (c .faults .result) (search needs) (c .faults .ensures)
 
 pub check-spec : {M : Type 1} → statement M
 check-spec = tie.close (tie.spec returns faults-requires returns-2)

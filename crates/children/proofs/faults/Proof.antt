@@ -1,4 +1,5 @@
--- `children::faults` meets its contract: the invariant says that what is left to judge decides the whole. Assumes nothing.
+-- `children::faults` meets its contract: the invariant says that what is left to judge decides the whole. Assumes
+-- nothing.
 use borrow.Author.Needs.{needs}
 use borrow.Author.Tests.{eq-eqb, ne-eqb, not-true, not-false}
 use mathlib.Core.Path.{_≡_, sym, _∙_}
@@ -32,16 +33,43 @@ loop-less : tie.Need-loop-less Inv-loop μ-loop
 loop-less c = search needs
 
 loop-again : tie.Need-loop-again Inv-loop μ-loop
-loop-again c = (search needs, (search needs, sym (judge-at (c .before .before .before .before .before .before .args .text .now) (c .before .before .before .before .loop .n) (c .before .before .before .before .loop .i) (search needs) ∙ rw (sym (c .before .is-space .ensures) ∙ c .if1 .taken)) ∙ c .before .before .before .before .loop .inv .1 .1))
+loop-again c = (
+  search needs,
+  (
+    search needs,
+    sym (judge-at (c .before .before .before .before .before .before .args .text .now)
+        (c .before .before .before .before .loop .n) (c .before .before .before .before .loop .i) (search needs) ∙ rw (sym
+        (c .before .is-space .ensures) ∙ c .if1 .taken)) ∙ c .before .before .before .before .loop .inv .1 .1,
+  ),
+)
 
 is-right-requires : tie.Need-is-right-requires Inv-loop μ-loop
 is-right-requires c κs = search needs
 
 returns : tie.Need-returns Inv-loop μ-loop
-returns c = sym (sym (c .before .before .before .before .before .before .loop .inv .1 .1) ∙ judge-at (c .before .before .before .before .before .before .before .before .args .text .now) (c .before .before .before .before .before .before .loop .n) (c .before .before .before .before .before .before .loop .i) (search needs) ∙ rw (sym (c .before .before .before .is-space .ensures) ∙ c .before .before .if1 .left, sym (c .before .is-right .ensures) ∙ not-true _ (c .if2 .taken)))
+returns c =
+    sym (sym (c .before .before .before .before .before .before .loop .inv .1 .1) ∙ judge-at
+    (c .before .before .before .before .before .before .before .before .args .text .now)
+    (c .before .before .before .before .before .before .loop .n)
+    (c .before .before .before .before .before .before .loop .i) (search needs) ∙ rw (
+      sym
+          (c .before .before .before .is-space .ensures) ∙ c .before .before .if1 .left,
+      sym (c .before .is-right .ensures)
+          ∙ not-true _ (c .if2 .taken),
+    ))
 
 returns-2 : tie.Need-returns-2 Inv-loop μ-loop
-returns-2 c = sym (sym (c .before .before .before .before .before .before .before .loop .inv .1 .1) ∙ judge-at (c .before .before .before .before .before .before .before .before .before .args .text .now) (c .before .before .before .before .before .before .before .loop .n) (c .before .before .before .before .before .before .before .loop .i) (search needs) ∙ rw (sym (c .before .before .before .before .is-space .ensures) ∙ c .before .before .before .if1 .left, sym (c .before .before .is-right .ensures) ∙ not-false _ (c .before .if2 .left), eq-eqb _ _ (c .if3 .taken)))
+returns-2 c =
+    sym (sym (c .before .before .before .before .before .before .before .loop .inv .1 .1) ∙ judge-at
+    (c .before .before .before .before .before .before .before .before .before .args .text .now)
+    (c .before .before .before .before .before .before .before .loop .n)
+    (c .before .before .before .before .before .before .before .loop .i) (search needs) ∙ rw (
+      sym
+          (c .before .before .before .before .is-space .ensures) ∙ c .before .before .before .if1 .left,
+      sym
+          (c .before .before .is-right .ensures) ∙ not-false _ (c .before .if2 .left),
+      eq-eqb _ _ (c .if3 .taken),
+    ))
 
 add-n : tie.Need-add-n Inv-loop μ-loop
 add-n c = search needs
@@ -53,10 +81,28 @@ loop-less-2 : tie.Need-loop-less-2 Inv-loop μ-loop
 loop-less-2 c = search needs
 
 loop-again-2 : tie.Need-loop-again-2 Inv-loop μ-loop
-loop-again-2 c = (search needs, (search needs, sym (judge-at (c .before .before .before .before .before .before .before .before .before .args .text .now) (c .before .before .before .before .before .before .before .loop .n) (c .before .before .before .before .before .before .before .loop .i) (search needs) ∙ rw (sym (c .before .before .before .before .is-space .ensures) ∙ c .before .before .before .if1 .left, sym (c .before .before .is-right .ensures) ∙ not-false _ (c .before .if2 .left), ne-eqb _ _ (c .if3 .left))) ∙ c .before .before .before .before .before .before .before .loop .inv .1 .1))
+loop-again-2 c = (
+  search needs,
+  (
+    search needs,
+    sym (judge-at
+        (c .before .before .before .before .before .before .before .before .before .args .text .now)
+        (c .before .before .before .before .before .before .before .loop .n)
+        (c .before .before .before .before .before .before .before .loop .i) (search needs) ∙ rw (
+          sym
+              (c .before .before .before .before .is-space .ensures) ∙ c .before .before .before .if1 .left,
+          sym
+              (c .before .before .is-right .ensures) ∙ not-false _ (c .before .if2 .left),
+          ne-eqb _ _ (c .if3 .left),
+        )) ∙
+        c .before .before .before .before .before .before .before .loop .inv .1 .1,
+  ),
+)
 
 returns-3 : tie.Need-returns-3 Inv-loop μ-loop
-returns-3 c = sym (sym (c .before .loop .inv .1 .1) ∙ judge-end (c .before .before .before .args .text .now) (c .before .loop .n) (c .before .loop .i) (search needs))
+returns-3 c =
+    sym (sym (c .before .loop .inv .1 .1) ∙ judge-end (c .before .before .before .args .text .now)
+    (c .before .loop .n) (c .before .loop .i) (search needs))
 
 pub faults-spec : {M : Type 1} → statement M
 faults-spec =

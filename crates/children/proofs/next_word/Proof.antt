@@ -10,7 +10,10 @@ word-end-requires : tie.Need-word-end-requires
 word-end-requires c κs = search needs
 
 returns : tie.Need-returns
-returns c = let s = c .before .skip-space .ensures in let w = c .word-end .ensures in record { skipped = s; word = w; some = λ h. w .some h (s .word h) }
+returns c =
+    let s = c .before .skip-space .ensures in
+    let w = c .word-end .ensures in
+    record { skipped = s; word = w; some = λ h. w .some h (s .word h) }
 
 pub next-word-spec : {M : Type 1} → statement M
 next-word-spec = tie.close (tie.spec skip-space-requires word-end-requires returns)

@@ -12,7 +12,8 @@ use Rattle.children.proofs.skip_space.Statement.{statement}
 use Rattle.children.proofs.skip_space.Tie as tie
 
 abbrev Inv-loop : tie.InvT-loop
-Inv-loop text from i₀ i = (from ≤ i) × ((i ≤ length text) × ((cut [] (drop from text) ≡ cut [] (drop i text)) × (Sound text from → Sound text i)))
+Inv-loop text from i₀ i = (from ≤ i) × ((i ≤ length text) × ((cut [] (drop from text) ≡ cut [] (drop i text)) × (Sound
+    text from → Sound text i)))
 
 abbrev μ-loop : tie.MeasureT-loop
 μ-loop text from i₀ i = length text - i
@@ -27,7 +28,17 @@ is-space-requires : tie.Need-is-space-requires Inv-loop μ-loop
 is-space-requires c κs = search needs
 
 returns : tie.Need-returns Inv-loop μ-loop
-returns c = record { from = search needs; within = search needs; words = c .before .before .before .before .loop .inv .1 .1 .0; sound = c .before .before .before .before .loop .inv .1 .1 .1; word = λ h. sym (c .before .is-space .ensures) ∙ not-true _ (c .if1 .taken) }
+returns c =
+    record {
+      from = search needs;
+      within = search needs;
+      words =
+          c .before .before .before .before .loop .inv .1 .1 .0;
+      sound =
+          c .before .before .before .before .loop .inv .1 .1 .1;
+      word = λ h. sym (c .before .is-space .ensures) ∙ not-true _
+          (c .if1 .taken);
+    }
 
 add-i : tie.Need-add-i Inv-loop μ-loop
 add-i c = search needs
@@ -36,10 +47,32 @@ loop-less : tie.Need-loop-less Inv-loop μ-loop
 loop-less c = search needs
 
 loop-again : tie.Need-loop-again Inv-loop μ-loop
-loop-again c = let e = sym (c .before .is-space .ensures) ∙ not-false _ (c .if1 .left) in (search needs, (search needs, (c .before .before .before .before .loop .inv .1 .1 .0 ∙ cut-space (c .before .before .before .before .before .before .args .text .now) (c .before .before .before .before .loop .i) (search needs) [] e, λ s. sound-space (c .before .before .before .before .before .before .args .text .now) (c .before .before .before .before .loop .i) (search needs) e (c .before .before .before .before .loop .inv .1 .1 .1 s))))
+loop-again c =
+    let e = sym (c .before .is-space .ensures) ∙ not-false _ (c .if1 .left) in (
+      search needs,
+      (
+        search needs,
+        (
+          c .before .before .before .before .loop .inv .1 .1 .0 ∙ cut-space
+              (c .before .before .before .before .before .before .args .text .now) (c .before .before .before .before .loop .i)
+              (search needs) [] e,
+          λ s. sound-space (c .before .before .before .before .before .before .args .text .now)
+              (c .before .before .before .before .loop .i) (search needs) e
+              (c .before .before .before .before .loop .inv .1 .1 .1 s),
+        ),
+      ),
+    )
 
 returns-2 : tie.Need-returns-2 Inv-loop μ-loop
-returns-2 c = record { from = search needs; within = search needs; words = c .before .loop .inv .1 .1 .0; sound = c .before .loop .inv .1 .1 .1; word = λ h. absurd (omega arith) }
+returns-2 c =
+    record {
+      from = search needs;
+      within = search needs;
+      words = c .before .loop .inv .1 .1 .0;
+      sound =
+          c .before .loop .inv .1 .1 .1;
+      word = λ h. absurd (omega arith);
+    }
 
 pub skip-space-spec : {M : Type 1} → statement M
 skip-space-spec =

@@ -1,4 +1,5 @@
--- `children::word_end` meets its contract: the invariant says what is left of the words, behind the bytes passed. Assumes nothing.
+-- `children::word_end` meets its contract: the invariant says what is left of the words, behind the bytes passed.
+-- Assumes nothing.
 use borrow.Author.Needs.{needs}
 use mathlib.Core.List.{[]}
 use mathlib.Core.Path.{_≡_, sym, ap, _∙_}
@@ -11,13 +12,24 @@ use Rattle.children.proofs.word_end.Statement.{statement}
 use Rattle.children.proofs.word_end.Tie as tie
 
 abbrev Inv-loop : tie.InvT-loop
-Inv-loop text start i₀ i = (start ≤ i) × ((i ≤ length text) × ((cut (take (i - start) (drop start text)) (drop i text) ≡ cut [] (drop start text)) × (Sound text start → Within text i)))
+Inv-loop text start i₀ i = (start ≤ i) × ((i ≤ length text) × ((cut (take (i - start) (drop start text)) (drop i text)
+    ≡ cut [] (drop start text)) × (Sound text start → Within text i)))
 
 abbrev μ-loop : tie.MeasureT-loop
 μ-loop text start i₀ i = length text - i
 
 loop-holds : tie.Need-loop-holds Inv-loop μ-loop
-loop-holds c = (search needs, (search needs, (ap (λ l. cut l (drop (c .before .args .start) (c .before .args .text .now))) (part-none (c .before .args .text .now) (c .before .args .start)), λ s. (0, s))))
+loop-holds c = (
+  search needs,
+  (
+    search needs,
+    (
+      ap (λ l. cut l (drop (c .before .args .start) (c .before .args .text .now)))
+          (part-none (c .before .args .text .now) (c .before .args .start)),
+      λ s. (0, s),
+    ),
+  ),
+)
 
 shared-slice-read-is-space : tie.Need-shared-slice-read-is-space Inv-loop μ-loop
 shared-slice-read-is-space c = search needs
@@ -26,7 +38,23 @@ is-space-requires : tie.Need-is-space-requires Inv-loop μ-loop
 is-space-requires c κs = search needs
 
 returns : tie.Need-returns Inv-loop μ-loop
-returns c = record { from = search needs; within = search needs; words = sym (c .before .before .before .before .loop .inv .1 .1 .0) ∙ cut-stop (c .before .before .before .before .before .before .args .text .now) (c .before .before .before .before .loop .i) (search needs) _ (sym (c .before .is-space .ensures) ∙ c .if1 .taken); sound = λ s. within-stop (c .before .before .before .before .before .before .args .text .now) (c .before .before .before .before .loop .i) (search needs) (sym (c .before .is-space .ensures) ∙ c .if1 .taken) (c .before .before .before .before .loop .inv .1 .1 .1 s); some = λ h e. later (c .before .before .before .before .before .before .args .text .now) _ (c .before .before .before .before .loop .i) (c .before .before .before .before .loop .inv .0) e (sym (c .before .is-space .ensures) ∙ c .if1 .taken) }
+returns c =
+    record {
+      from = search needs;
+      within = search needs;
+      words = sym
+          (c .before .before .before .before .loop .inv .1 .1 .0) ∙ cut-stop
+          (c .before .before .before .before .before .before .args .text .now) (c .before .before .before .before .loop .i)
+          (search needs) _ (sym (c .before .is-space .ensures) ∙ c .if1 .taken);
+      sound = λ s. within-stop
+          (c .before .before .before .before .before .before .args .text .now) (c .before .before .before .before .loop .i)
+          (search needs) (sym (c .before .is-space .ensures) ∙ c .if1 .taken)
+          (c .before .before .before .before .loop .inv .1 .1 .1 s);
+      some = λ h e. later
+          (c .before .before .before .before .before .before .args .text .now) _
+          (c .before .before .before .before .loop .i) (c .before .before .before .before .loop .inv .0) e (sym
+          (c .before .is-space .ensures) ∙ c .if1 .taken);
+    }
 
 add-i : tie.Need-add-i Inv-loop μ-loop
 add-i c = search needs
@@ -35,10 +63,37 @@ loop-less : tie.Need-loop-less Inv-loop μ-loop
 loop-less c = search needs
 
 loop-again : tie.Need-loop-again Inv-loop μ-loop
-loop-again c = (search needs, (search needs, (ap (λ l. cut l (drop ((c .before .before .before .before .loop .i) + 1) (c .before .before .before .before .before .before .args .text .now))) (part-next (c .before .before .before .before .before .before .args .text .now) (c .before .before .before .before .loop .i) (search needs) _ (c .before .before .before .before .loop .inv .0)) ∙ sym (cut-byte (c .before .before .before .before .before .before .args .text .now) (c .before .before .before .before .loop .i) (search needs) _ (sym (c .before .is-space .ensures) ∙ c .if1 .left)) ∙ c .before .before .before .before .loop .inv .1 .1 .0, λ s. within-byte (c .before .before .before .before .before .before .args .text .now) (c .before .before .before .before .loop .i) (search needs) (sym (c .before .is-space .ensures) ∙ c .if1 .left) (c .before .before .before .before .loop .inv .1 .1 .1 s))))
+loop-again c = (
+  search needs,
+  (
+    search needs,
+    (
+      ap (λ l. cut l (drop ((c .before .before .before .before .loop .i) + 1)
+          (c .before .before .before .before .before .before .args .text .now))) (part-next
+          (c .before .before .before .before .before .before .args .text .now) (c .before .before .before .before .loop .i)
+          (search needs) _ (c .before .before .before .before .loop .inv .0)) ∙ sym (cut-byte
+          (c .before .before .before .before .before .before .args .text .now) (c .before .before .before .before .loop .i)
+          (search needs) _ (sym (c .before .is-space .ensures) ∙ c .if1 .left)) ∙
+          c .before .before .before .before .loop .inv .1 .1 .0,
+      λ s. within-byte
+          (c .before .before .before .before .before .before .args .text .now) (c .before .before .before .before .loop .i)
+          (search needs) (sym (c .before .is-space .ensures) ∙ c .if1 .left)
+          (c .before .before .before .before .loop .inv .1 .1 .1 s),
+    ),
+  ),
+)
 
 returns-2 : tie.Need-returns-2 Inv-loop μ-loop
-returns-2 c = record { from = search needs; within = search needs; words = sym (c .before .loop .inv .1 .1 .0) ∙ cut-end (c .before .before .before .args .text .now) (c .before .loop .i) _ (search needs); sound = λ s. sound-end (c .before .before .before .args .text .now) (c .before .loop .i) (search needs); some = λ h e. omega arith }
+returns-2 c =
+    record {
+      from = search needs;
+      within = search needs;
+      words = sym (c .before .loop .inv .1 .1 .0) ∙ cut-end
+          (c .before .before .before .args .text .now) (c .before .loop .i) _ (search needs);
+      sound = λ s. sound-end
+          (c .before .before .before .args .text .now) (c .before .loop .i) (search needs);
+      some = λ h e. omega arith;
+    }
 
 pub word-end-spec : {M : Type 1} → statement M
 word-end-spec =

@@ -14,10 +14,19 @@ counted-figures-requires : tie.Need-counted-figures-requires
 counted-figures-requires c κs = search needs
 
 pack-requires : tie.Need-pack-requires
-pack-requires c κs = subst Fits (sym (c .counted-figures .ensures)) (counted-fits (c .before .before .before .args .table .now) (c .before .count .result) (c .before .count .ensures))
+pack-requires c κs =
+    subst Fits (sym (c .counted-figures .ensures)) (counted-fits (c .before .before .before .args .table .now)
+    (c .before .count .result) (c .before .count .ensures))
 
 returns : tie.Need-returns
-returns c = record { answer = c .before .before .count .result; holds = c .before .before .count .ensures; number = c .pack .ensures ∙ ap packed (c .before .counted-figures .ensures) }
+returns c =
+    let c2 = c .before .before in
+    record {
+      answer = c2 .count .result;
+      holds = c2 .count .ensures;
+      number = c .pack .ensures ∙ ap packed
+          (c .before .counted-figures .ensures);
+    }
 
 pub slots-count-spec : {M : Type 1} → statement M
 slots-count-spec =

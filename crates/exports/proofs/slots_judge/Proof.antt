@@ -14,10 +14,19 @@ verdict-figures-requires : tie.Need-verdict-figures-requires
 verdict-figures-requires c κs = search needs
 
 pack-requires : tie.Need-pack-requires
-pack-requires c κs = subst Fits (sym (c .verdict-figures .ensures)) (verdict-fits (c .before .before .before .args .table .now) (c .before .judge .result) (c .before .judge .ensures))
+pack-requires c κs =
+    subst Fits (sym (c .verdict-figures .ensures)) (verdict-fits (c .before .before .before .args .table .now)
+    (c .before .judge .result) (c .before .judge .ensures))
 
 returns : tie.Need-returns
-returns c = record { answer = c .before .before .judge .result; holds = c .before .before .judge .ensures; number = c .pack .ensures ∙ ap packed (c .before .verdict-figures .ensures) }
+returns c =
+    let c2 = c .before .before in
+    record {
+      answer = c2 .judge .result;
+      holds = c2 .judge .ensures;
+      number = c .pack .ensures ∙ ap packed
+          (c .before .verdict-figures .ensures);
+    }
 
 pub slots-judge-spec : {M : Type 1} → statement M
 slots-judge-spec =

@@ -14,13 +14,25 @@ matched-figures-requires : tie.Need-matched-figures-requires
 matched-figures-requires c κs = search needs
 
 pack-requires : tie.Need-pack-requires
-pack-requires c κs = subst Fits (sym (c .matched-figures .ensures)) (matched-fits (c .before .before .before .before .before .before .before .before .args .table .now) (c .before .before .before .before .before .before .before .before .args .children .now) (c .before .before .before .before .before .before .before .before .args .slots .now) (c .before .before .before .match-children .last .1 .1 .0) (c .before .before .before .match-children .result) (c .before .before .before .match-children .ensures))
+pack-requires c κs =
+    let c3 = c .before .before .before in
+    let c8 = c3 .before .before .before .before .before in
+    subst Fits (sym (c .matched-figures .ensures)) (matched-fits (c8 .args .table .now) (c8 .args .children .now)
+    (c8 .args .slots .now) (c3 .match-children .last .1 .1 .0) (c3 .match-children .result)
+    (c3 .match-children .ensures))
 
 same-length : tie.Need-same-length
 same-length c = search needs
 
 returns : tie.Need-returns
-returns c = record { answer = c .before .before .before .before .match-children .result; holds = c .before .before .before .before .match-children .ensures; number = c .pack .ensures ∙ ap packed (c .before .matched-figures .ensures) }
+returns c =
+    let c4 = c .before .before .before .before in
+    record {
+      answer = c4 .match-children .result;
+      holds = c4 .match-children .ensures;
+      number = c .pack .ensures ∙ ap
+          packed (c .before .matched-figures .ensures);
+    }
 
 pub slots-match-spec : {M : Type 1} → statement M
 slots-match-spec =

@@ -11,13 +11,25 @@ part-of-requires : tie.Need-part-of-requires
 part-of-requires c κs = search needs
 
 part-figures-requires : tie.Need-part-figures-requires
-part-figures-requires c κs = part-forward (c .before .before .before .args .table .now) (c .before .before .before .args .children .now) (c .part-of .result) (c .part-of .ensures)
+part-figures-requires c κs =
+    let c3 = c .before .before .before in
+    part-forward (c3 .args .table .now) (c3 .args .children .now) (c .part-of .result) (c .part-of .ensures)
 
 pack-requires : tie.Need-pack-requires
-pack-requires c κs = subst Fits (sym (c .part-figures .ensures)) (part-fits (c .before .before .before .before .args .table .now) (c .before .before .before .before .args .children .now) (c .before .part-of .result) (c .before .part-of .ensures))
+pack-requires c κs =
+    let c4 = c .before .before .before .before in
+    subst Fits (sym (c .part-figures .ensures)) (part-fits (c4 .args .table .now) (c4 .args .children .now)
+    (c .before .part-of .result) (c .before .part-of .ensures))
 
 returns : tie.Need-returns
-returns c = record { answer = c .before .before .part-of .result; holds = c .before .before .part-of .ensures; number = c .pack .ensures ∙ ap packed (c .before .part-figures .ensures) }
+returns c =
+    let c2 = c .before .before in
+    record {
+      answer = c2 .part-of .result;
+      holds = c2 .part-of .ensures;
+      number = c .pack .ensures ∙ ap packed
+          (c .before .part-figures .ensures);
+    }
 
 pub slots-part-spec : {M : Type 1} → statement M
 slots-part-spec = tie.close (tie.spec part-of-requires part-figures-requires pack-requires returns)

@@ -14,13 +14,24 @@ outcome-figures-requires : tie.Need-outcome-figures-requires
 outcome-figures-requires c κs = search needs
 
 pack-requires : tie.Need-pack-requires
-pack-requires c κs = subst Fits (sym (c .outcome-figures .ensures)) (read-fits (c .before .before .before .before .before .before .before .args .text .now) (c .before .before .before .before .before .before .before .args .table .now) (c .before .before .before .read .last .1 .0) (c .before .before .before .read .result) (c .before .before .before .read .ensures))
+pack-requires c κs =
+    let c3 = c .before .before .before in
+    let c7 = c3 .before .before .before .before in
+    subst Fits (sym (c .outcome-figures .ensures)) (read-fits (c7 .args .text .now) (c7 .args .table .now)
+    (c3 .read .last .1 .0) (c3 .read .result) (c3 .read .ensures))
 
 same-length : tie.Need-same-length
 same-length c = search needs
 
 returns : tie.Need-returns
-returns c = record { answer = c .before .before .before .before .read .result; holds = c .before .before .before .before .read .ensures; number = c .pack .ensures ∙ ap packed (c .before .outcome-figures .ensures) }
+returns c =
+    let c4 = c .before .before .before .before in
+    record {
+      answer = c4 .read .result;
+      holds = c4 .read .ensures;
+      number = c .pack .ensures ∙ ap packed
+          (c .before .outcome-figures .ensures);
+    }
 
 pub slots-read-spec : {M : Type 1} → statement M
 slots-read-spec =

@@ -14,10 +14,20 @@ stepped-figures-requires : tie.Need-stepped-figures-requires
 stepped-figures-requires c κs = search needs
 
 pack-requires : tie.Need-pack-requires
-pack-requires c κs = subst Fits (sym (c .stepped-figures .ensures)) (stepped-fits (c .before .before .before .before .args .table .now) (c .before .before .before .before .args .slot) (c .before .before .before .before .args .name .now) (c .before .step .result) (c .before .step .ensures))
+pack-requires c κs =
+    let c4 = c .before .before .before .before in
+    subst Fits (sym (c .stepped-figures .ensures)) (stepped-fits (c4 .args .table .now) (c4 .args .slot)
+    (c4 .args .name .now) (c .before .step .result) (c .before .step .ensures))
 
 returns : tie.Need-returns
-returns c = record { answer = c .before .before .step .result; holds = c .before .before .step .ensures; number = c .pack .ensures ∙ ap packed (c .before .stepped-figures .ensures) }
+returns c =
+    let c2 = c .before .before in
+    record {
+      answer = c2 .step .result;
+      holds = c2 .step .ensures;
+      number = c .pack .ensures ∙ ap packed
+          (c .before .stepped-figures .ensures);
+    }
 
 pub slots-step-spec : {M : Type 1} → statement M
 slots-step-spec = tie.close (tie.spec step-requires stepped-figures-requires pack-requires returns)

@@ -14,13 +14,24 @@ written-figures-requires : tie.Need-written-figures-requires
 written-figures-requires c κs = search needs
 
 pack-requires : tie.Need-pack-requires
-pack-requires c κs = subst Fits (sym (c .written-figures .ensures)) (written-fits (c .before .before .before .before .before .before .before .args .table .now) (c .before .before .before .before .before .before .before .args .text .now) (c .before .before .before .write .last .1 .0) (c .before .before .before .write .result) (c .before .before .before .write .ensures))
+pack-requires c κs =
+    let c3 = c .before .before .before in
+    let c7 = c3 .before .before .before .before in
+    subst Fits (sym (c .written-figures .ensures)) (written-fits (c7 .args .table .now) (c7 .args .text .now)
+    (c3 .write .last .1 .0) (c3 .write .result) (c3 .write .ensures))
 
 same-length : tie.Need-same-length
 same-length c = search needs
 
 returns : tie.Need-returns
-returns c = record { answer = c .before .before .before .before .write .result; holds = c .before .before .before .before .write .ensures; number = c .pack .ensures ∙ ap packed (c .before .written-figures .ensures) }
+returns c =
+    let c4 = c .before .before .before .before in
+    record {
+      answer = c4 .write .result;
+      holds = c4 .write .ensures;
+      number = c .pack .ensures ∙ ap packed
+          (c .before .written-figures .ensures);
+    }
 
 pub slots-write-spec : {M : Type 1} → statement M
 slots-write-spec =

@@ -50,17 +50,19 @@ same-length : tie.Need-same-length
 same-length c = search needs
 
 returns-2 : tie.Need-returns-2
-returns-2 c = let a = c .before .before .before .before .before .before .before .before .before .before .before .args in
+returns-2 c =
+    let c6 = c .before .before .before .before .before .before in
+    let c11 = c6 .before .before .before .before .before in
+    let a = c11 .args in
     let s = a .table .now in
-    let h : Headed s (a .n) (a .m) = c .before .before .before .before .before .before .before .before .before .before
-    .before .pre .1 in
-    let x : List ℕ = c .before .before .before .before .before .before .fill .last .1 .0 in
-    let r : take (a .n) x ≡ rows s = c .before .before .before .before .before .before .fill .ensures
-    ∙ ap (λ (i : ℕ). wordsOf (take (2 * i) (drop 4 s))) (h .node-count) in
+    let h : Headed s (a .n) (a .m) = c11 .pre .1 in
+    let x : List ℕ = c6 .fill .last .1 .0 in
+    let r : take (a .n) x ≡ rows s = c6 .fill .ensures ∙ ap (λ (i : ℕ). wordsOf (take (2 * i) (drop 4 s)))
+    (h .node-count) in
     let z : a .n - 0 ≡ a .n = omega arith in
     let q : take (a .n - 0) x ≡ rows s = ap (λ (i : ℕ). take i x) z ∙ r in
-    no-tree s (h .few) (ap₂ (λ m l. whole m 1 l) (sym (h .name-count)) (sym q) ∙ sym (c .before .one-tree .ensures)
-    ∙ not-true (c .before .one-tree .result) (c .if2 .taken))
+    no-tree s (h .few) (ap₂ (λ m l. whole m 1 l) (sym (h .name-count)) (sym q) ∙ sym (c .before .one-tree .ensures) ∙
+    not-true (c .before .one-tree .result) (c .if2 .taken))
 
 has-root-requires : tie.Need-has-root-requires
 has-root-requires c κs = search needs
@@ -69,48 +71,45 @@ same-length-2 : tie.Need-same-length-2
 same-length-2 c = search needs
 
 returns-3 : tie.Need-returns-3
-returns-3 c = let a = c .before .before .before .before .before .before .before .before .before .before .before
-    .before .before .args in
+returns-3 c =
+    let c8 = c .before .before .before .before .before .before .before .before in
+    let c13 = c8 .before .before .before .before .before in
+    let a = c13 .args in
     let s = a .table .now in
-    let h : Headed s (a .n) (a .m) = c .before .before .before .before .before .before .before .before .before .before
-    .before .before .before .pre .1 in
-    let x : List ℕ = c .before .before .before .before .before .before .before .before .fill .last .1 .0 in
-    let r : take (a .n) x ≡ rows s = c .before .before .before .before .before .before .before .before .fill .ensures
-    ∙ ap (λ (i : ℕ). wordsOf (take (2 * i) (drop 4 s))) (h .node-count) in
+    let h : Headed s (a .n) (a .m) = c13 .pre .1 in
+    let x : List ℕ = c8 .fill .last .1 .0 in
+    let r : take (a .n) x ≡ rows s = c8 .fill .ensures ∙ ap (λ (i : ℕ). wordsOf (take (2 * i) (drop 4 s)))
+    (h .node-count) in
     let z : a .n - 0 ≡ a .n = omega arith in
     let q : take (a .n - 0) x ≡ rows s = ap (λ (i : ℕ). take i x) z ∙ r in
-    no-root s (h .few) (ap rooted (sym q) ∙ sym (c .before .has-root .ensures)
-    ∙ not-true (c .before .has-root .result) (c .if3 .taken))
+    no-root s (h .few) (ap rooted (sym q) ∙ sym (c .before .has-root .ensures) ∙ not-true
+    (c .before .has-root .result) (c .if3 .taken))
 
 same-length-3 : tie.Need-same-length-3
 same-length-3 c = search needs
 
 returns-4 : tie.Need-returns-4
-returns-4 c = let a = c .before .before .before .before .before .before .before .before .before .before .before
-    .before .before .args in
+returns-4 c =
+    let c3 = c .before .before .before in
+    let c8 = c3 .before .before .before .before .before in
+    let c10 = c8 .before .before in
+    let c12 = c10 .before .before in
+    let c13 = c12 .before in
+    let a = c13 .args in
     let s = a .table .now in
-    let h : Headed s (a .n) (a .m) = c .before .before .before .before .before .before .before .before .before .before
-    .before .before .before .pre .1 in
-    let x : List ℕ = c .before .before .before .before .before .before .before .before .fill .last .1 .0 in
-    let r : take (a .n) x ≡ rows s = c .before .before .before .before .before .before .before .before .fill .ensures
-    ∙ ap (λ (i : ℕ). wordsOf (take (2 * i) (drop 4 s))) (h .node-count) in
+    let h : Headed s (a .n) (a .m) = c13 .pre .1 in
+    let x : List ℕ = c8 .fill .last .1 .0 in
+    let r : take (a .n) x ≡ rows s = c8 .fill .ensures ∙ ap (λ (i : ℕ). wordsOf (take (2 * i) (drop 4 s)))
+    (h .node-count) in
     let z : a .n - 0 ≡ a .n = omega arith in
     let q : take (a .n - 0) x ≡ rows s = ap (λ (i : ℕ). take i x) z ∙ r in
-    let w : whole (nameCount s) 1 (rows s) ≡ true = ap₂ (λ m l. whole m 1 l) (sym (h .name-count)) (sym q)
-    ∙ sym (c .before .before .before .one-tree .ensures)
-    ∙ not-false (c .before .before .before .one-tree .result) (c .before .before .if2 .left) in
-    let o : rooted (rows s) ≡ true = ap rooted (sym q) ∙ sym (c .before .has-root .ensures)
-    ∙ not-false (c .before .has-root .result) (c .if3 .left) in
-    let k = test-drawn s (h .few)
-    (λ i. omega (
+    let w : whole (nameCount s) 1 (rows s) ≡ true = ap₂ (λ m l. whole m 1 l) (sym (h .name-count)) (sym q) ∙ sym
+    (c3 .one-tree .ensures) ∙ not-false (c3 .one-tree .result) (c .before .before .if2 .left) in
+    let o : rooted (rows s) ≡ true = ap rooted (sym q) ∙ sym (c .before .has-root .ensures) ∙ not-false
+    (c .before .has-root .result) (c .if3 .left) in
+    let k = test-drawn s (h .few) (λ i. omega (arith, c12 .shared-slice-known .given i)) (omega (
       arith,
-      c .before .before .before .before .before .before .before .before .before .before .before
-          .before .shared-slice-known .given i,
-    ))
-    (omega (
-      arith,
-      c .before .before .before .before .before .before .before .before .before .before .if1
-          .left,
+      c10 .if1 .left,
       h .node-count,
     )) w o in
     (k .0, k .1, r)

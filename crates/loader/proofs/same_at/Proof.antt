@@ -61,25 +61,15 @@ part-same-start c = search needs
 
 part-same-end : tie.Need-part-same-end
 part-same-end c =
-    let g : Stands
-    (c .before .before .before .before .before .before .before .before .before .before .before .args .table .now)
-    (c .before .before .before .before .before .before .before .before .before .before .before .args .starts .now)
-    (c .before .before .before .before .before .before .before .before .before .before .before .args .lengths
-    .now) (c .before .before .before .before .before .before .before .before .before .before .before .args
-    .m .0) = c .before .before .before .before .before .before .before .before .before .before .before .pre .0 in
-    let h : Stands
-    (c .before .before .before .before .before .before .before .before .before .before .before .args .table .now)
-    (c .before .before .before .before .before .before .before .before .before .before .before .args .starts .now)
-    (c .before .before .before .before .before .before .before .before .before .before .before .args .lengths
-    .now) (c .before .before .before .before .before .before .before .before .before .before .before .args
-    .n .0) = c .before .before .before .before .before .before .before .before .before .before .before .pre
-    .1 in
+    let c4 = c .before .before .before .before in
+    let c6 = c4 .before .before in
+    let c11 = c6 .before .before .before .before .before in
+    let g : Stands (c11 .args .table .now) (c11 .args .starts .now) (c11 .args .lengths .now) (c11 .args .m .0) =
+    c11 .pre .0 in
+    let h : Stands (c11 .args .table .now) (c11 .args .starts .now) (c11 .args .lengths .now) (c11 .args .n .0) =
+    c11 .pre .1 in
     let w = g .within in
-    omega (
-      arith,
-      c .before .before .before .before .before .before .wide16 .ensures .0,
-      c .before .before .before .before .wide162 .ensures .0,
-    )
+    omega (arith, c6 .wide16 .ensures .0, c4 .wide162 .ensures .0)
 
 sub-same-2 : tie.Need-sub-same-2
 sub-same-2 c = search needs
@@ -89,52 +79,35 @@ part-same-start-2 c = search needs
 
 part-same-end-2 : tie.Need-part-same-end-2
 part-same-end-2 c =
-    let g : Stands
-    (c .before .before .before .before .before .before .before .before .before .before .before .before .args .table
-    .now) (c .before .before .before .before .before .before .before .before .before .before .before .before .args
-    .starts .now)
-    (c .before .before .before .before .before .before .before .before .before .before .before .before .args
-    .lengths .now)
-    (c .before .before .before .before .before .before .before .before .before .before .before .before
-    .args .m .0) = c .before .before .before .before .before .before .before .before .before .before .before
-    .before .pre .0 in
-    let h : Stands
-    (c .before .before .before .before .before .before .before .before .before .before .before .before .args
-    .table .now)
-    (c .before .before .before .before .before .before .before .before .before .before .before .before .args
-    .starts .now)
-    (c .before .before .before .before .before .before .before .before .before .before .before .before
-    .args .lengths .now)
-    (c .before .before .before .before .before .before .before .before .before .before .before .before
-    .args .n .0) = c .before .before .before .before .before .before .before .before .before .before
-    .before .before .pre .1 in
-    let w = h .within in omega (arith, c .before .before .before .wide163 .ensures .0, c .before .wide164 .ensures .0)
+    let c12 = c .before .before .before .before .before .before .before .before .before .before .before .before in
+    let g : Stands (c12 .args .table .now) (c12 .args .starts .now) (c12 .args .lengths .now) (c12 .args .m .0) =
+    c12 .pre .0 in
+    let h : Stands (c12 .args .table .now) (c12 .args .starts .now) (c12 .args .lengths .now) (c12 .args .n .0) =
+    c12 .pre .1 in
+    let w = h .within in
+    omega (arith, c .before .before .before .wide163 .ensures .0, c .before .wide164 .ensures .0)
 
 same-requires : tie.Need-same-requires
 same-requires c κs = search needs
 
 returns : tie.Need-returns
-returns c = let s = c .before .before .before .before .before .before .before .before .before .before .before .before
-    .before .before .args .table .now in
-    let p = c .before .before .before .before .before .before .before .before .before .before .before .before .before
-    .before .args .starts .now in
-    let q = c .before .before .before .before .before .before .before .before .before .before .before .before .before
-    .before .args .lengths .now in
-    let e : c .before .before .before .before .before .before .before .before .before .wide16 .result + c .before
-    .before .before .before .before .before .before .wide162 .result - c .before .before .before .before .before
-    .before .before .before .before .wide16 .result
-    ≡ getD q (c .before .before .before .before .before .before .before .before .before .before .before
-    .before .before .before .args .m .0) 0 = let z =
-    c .before .before .before .before .before .before .before .wide162 .ensures .0 in omega arith in
-    let f : c .before .before .before .before .before .wide163 .result + c .before .before .before .wide164
-    .result - c .before .before .before .before .before .wide163 .result
-    ≡ getD q (c .before .before .before .before .before .before .before .before .before .before .before .before
-    .before .before .args .n .0) 0 = let z = c .before .before .before .wide164 .ensures .0 in omega arith in
-    same-is _ _ (c .same .result) (c .same .ensures)
-    ∙ ap₂ sameBytes
-    (ap₂ (λ (x y : ℕ). take y (drop x s))
-    (c .before .before .before .before .before .before .before .before .before .wide16 .ensures .0) e)
-    (ap₂ (λ (x y : ℕ). take y (drop x s)) (c .before .before .before .before .before .wide163 .ensures .0) f)
+returns c =
+    let c3 = c .before .before .before in
+    let c5 = c3 .before .before in
+    let c7 = c5 .before .before in
+    let c9 = c7 .before .before in
+    let c14 = c9 .before .before .before .before .before in
+    let s = c14 .args .table .now in
+    let p = c14 .args .starts .now in
+    let q = c14 .args .lengths .now in
+    let e : c9 .wide16 .result + c7 .wide162 .result - c9 .wide16 .result ≡ getD q (c14 .args .m .0) 0 = let z =
+    c7 .wide162 .ensures .0 in
+    omega arith in
+    let f : c5 .wide163 .result + c3 .wide164 .result - c5 .wide163 .result ≡ getD q (c14 .args .n .0) 0 = let z =
+    c3 .wide164 .ensures .0 in
+    omega arith in
+    same-is _ _ (c .same .result) (c .same .ensures) ∙ ap₂ sameBytes (ap₂ (λ (x y : ℕ). take y (drop x s))
+    (c9 .wide16 .ensures .0) e) (ap₂ (λ (x y : ℕ). take y (drop x s)) (c5 .wide163 .ensures .0) f)
 
 pub same-at-spec : {M : Type 1} → statement M
 same-at-spec =

@@ -37,22 +37,24 @@ word-requires c κs = (
 )
 
 returns : tie.Need-returns
-returns c = let s = c .before .before .before .before .before .before .before .before .args .table .now in
-    let k = c .before .before .before .before .before .before .before .before .args .k in
-    let h : k + 16 ≤ 8 * length s = c .before .before .before .before .before .before .before .before .pre .0 in
+returns c =
+    let c4 = c .before .before .before .before in
+    let c5 = c4 .before in
+    let c6 = c5 .before in
+    let c8 = c6 .before .before in
+    let s = c8 .args .table .now in
+    let k = c8 .args .k in
+    let h : k + 16 ≤ 8 * length s = c8 .pre .0 in
     let f : NodeFields s k (fieldAt s k 16) = node-fields s k h in
     let l : fieldAt s k 16 < 65536 = field-lt s k 16 h in
-    let a : c .before .before .before .before .before .before .take .result .value
-    ≡ fieldAt s k 2 = c .before .before .before .before .before .before .take .ensures .0 in
-    let n : c .before .before .before .before .before .before .take .result .next .at
-    ≡ k + 2 = c .before .before .before .before .before .before .take .ensures .1 .1 in
-    let b : c .before .before .before .before .before .take2 .result .value ≡ fieldAt s (k + 2) 2 =
-    c .before .before .before .before .before .take2 .ensures .0 ∙ ap (λ i. fieldAt s i 2) n in
-    let o : c .before .before .before .before .before .take2 .result .next .at
-    ≡ k + 4 = let e = c .before .before .before .before .before .take2 .ensures .1 .1 in omega arith in
-    let d : c .before .before .before .before .take3 .result .value ≡ fieldAt s (k + 4) 12 =
-    c .before .before .before .before .take3 .ensures .0 ∙ ap (λ i. fieldAt s i 12) o in
-    let z = c .word .ensures in omega (arith, f .kind, f .mark, f .value)
+    let a : c6 .take .result .value ≡ fieldAt s k 2 = c6 .take .ensures .0 in
+    let n : c6 .take .result .next .at ≡ k + 2 = c6 .take .ensures .1 .1 in
+    let b : c5 .take2 .result .value ≡ fieldAt s (k + 2) 2 = c5 .take2 .ensures .0 ∙ ap (λ i. fieldAt s i 2) n in
+    let o : c5 .take2 .result .next .at ≡ k + 4 = let e = c5 .take2 .ensures .1 .1 in
+    omega arith in
+    let d : c4 .take3 .result .value ≡ fieldAt s (k + 4) 12 = c4 .take3 .ensures .0 ∙ ap (λ i. fieldAt s i 12) o in
+    let z = c .word .ensures in
+    omega (arith, f .kind, f .mark, f .value)
 
 pub word-at-spec : {M : Type 1} → statement M
 word-at-spec =

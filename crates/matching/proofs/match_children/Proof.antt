@@ -26,13 +26,30 @@ enum-known-passing : tie.Need-enum-known-passing
 enum-known-passing c = search needs
 
 returns : tie.Need-returns
-returns c = (by-model (not-ready (c .before .before .before .before .before .before .before .before .before .before .before .before .before .before .before .args .table .now) (c .before .before .before .before .before .before .before .prepare .last .1 .0) (c .before .before .before .before .before .before .before .prepare .last .1 .1 .0) (c .before .before .before .before .before .before .before .prepare .last .1 .1 .1 .0) (c .before .before .before .before .before .before .before .prepare .last .1 .1 .1 .1 .0) (c .before .before .before .before .before .before .before .prepare .result .passing) (c .before .before .before .before .before .before .before .prepare .result) (c .before .passing .given .0 .0) (c .before .before .before .before .before .before .before .prepare .ensures) (c .before .passing .given .1)), refl)
+returns c =
+    let c7 = c .before .before .before .before .before .before .before in
+    let c15 = c7 .before .before .before .before .before .before .before .before in (
+      by-model (not-ready (c15 .args .table .now) (c7 .prepare .last .1 .0) (c7 .prepare .last .1 .1 .0)
+          (c7 .prepare .last .1 .1 .1 .0) (c7 .prepare .last .1 .1 .1 .1 .0) (c7 .prepare .result .passing)
+          (c7 .prepare .result) (c .before .passing .given .0 .0) (c7 .prepare .ensures) (c .before .passing .given .1)),
+      refl,
+    )
 
 enum-told : tie.Need-enum-told
 enum-told c = search needs
 
 returns-2 : tie.Need-returns-2
-returns-2 c = let m = is-ready (c .before .before .before .before .before .before .before .before .before .before .before .before .before .before .before .args .table .now) (c .before .before .before .before .before .before .before .prepare .last .1 .0) (c .before .before .before .before .before .before .before .prepare .last .1 .1 .0) (c .before .before .before .before .before .before .before .prepare .last .1 .1 .1 .0) (c .before .before .before .before .before .before .before .prepare .last .1 .1 .1 .1 .0) (c .before .before .before .before .before .before .before .prepare .result .passing) (c .before .before .before .before .before .before .before .prepare .result) (c .before .before .before .before .before .before .before .prepare .ensures) (c .before .enum-told .given .1) in (by-room (m .model) (m .passed) (search needs), refl)
+returns-2 c =
+    let m = is-ready
+    (c .before .before .before .before .before .before .before .before .before .before .before .before .before .before .before .args .table .now)
+    (c .before .before .before .before .before .before .before .prepare .last .1 .0)
+    (c .before .before .before .before .before .before .before .prepare .last .1 .1 .0)
+    (c .before .before .before .before .before .before .before .prepare .last .1 .1 .1 .0)
+    (c .before .before .before .before .before .before .before .prepare .last .1 .1 .1 .1 .0)
+    (c .before .before .before .before .before .before .before .prepare .result .passing)
+    (c .before .before .before .before .before .before .before .prepare .result)
+    (c .before .before .before .before .before .before .before .prepare .ensures) (c .before .enum-told .given .1) in
+    (by-room (m .model) (m .passed) (search needs), refl)
 
 check-requires : tie.Need-check-requires
 check-requires c κs = search needs
@@ -41,7 +58,23 @@ enum-known-checked : tie.Need-enum-known-checked
 enum-known-checked c = search needs
 
 returns-3 : tie.Need-returns-3
-returns-3 c = let m = is-ready (c .before .before .before .before .before .before .before .before .before .before .before .before .before .before .before .before .before .before .before .args .table .now) (c .before .before .before .before .before .before .before .before .before .before .before .prepare .last .1 .0) (c .before .before .before .before .before .before .before .before .before .before .before .prepare .last .1 .1 .0) (c .before .before .before .before .before .before .before .before .before .before .before .prepare .last .1 .1 .1 .0) (c .before .before .before .before .before .before .before .before .before .before .before .prepare .last .1 .1 .1 .1 .0) (c .before .before .before .before .before .before .before .before .before .before .before .prepare .result .passing) (c .before .before .before .before .before .before .before .before .before .before .before .prepare .result) (c .before .before .before .before .before .before .before .before .before .before .before .prepare .ensures) (c .before .before .before .before .before .enum-told .given .1) in (by-children (m .model) (m .passed) (search needs) (checked-refused (c .before .before .before .before .before .before .before .before .before .before .before .before .before .before .before .before .before .before .before .args .children .now) (c .before .before .before .check .result) (c .before .checked .given .0 .0) (c .before .before .before .check .ensures) (c .before .checked .given .1)), refl)
+returns-3 c =
+    let m = is-ready
+    (c .before .before .before .before .before .before .before .before .before .before .before .before .before .before .before .before .before .before .before .args .table .now)
+    (c .before .before .before .before .before .before .before .before .before .before .before .prepare .last .1 .0)
+    (c .before .before .before .before .before .before .before .before .before .before .before .prepare .last .1 .1 .0)
+    (c .before .before .before .before .before .before .before .before .before .before .before .prepare .last .1 .1 .1 .0)
+    (c .before .before .before .before .before .before .before .before .before .before .before .prepare .last .1 .1 .1 .1 .0)
+    (c .before .before .before .before .before .before .before .before .before .before .before .prepare .result .passing)
+    (c .before .before .before .before .before .before .before .before .before .before .before .prepare .result)
+    (c .before .before .before .before .before .before .before .before .before .before .before .prepare .ensures)
+    (c .before .before .before .before .before .enum-told .given .1) in (
+      by-children (m .model) (m .passed) (search needs) (checked-refused
+          (c .before .before .before .before .before .before .before .before .before .before .before .before .before .before .before .before .before .before .before .args .children .now)
+          (c .before .before .before .check .result) (c .before .checked .given .0 .0)
+          (c .before .before .before .check .ensures) (c .before .checked .given .1)),
+      refl,
+    )
 
 enum-told-2 : tie.Need-enum-told-2
 enum-told-2 c = search needs
@@ -59,16 +92,85 @@ slice-aggregate-place-children-4 : tie.Need-slice-aggregate-place-children-4
 slice-aggregate-place-children-4 c = search needs
 
 place-children-requires : tie.Need-place-children-requires
-place-children-requires c κs = let m = is-ready (c .before .before .before .before .before .before .before .before .before .before .before .before .before .before .before .before .before .before .before .before .before .before .before .before .before .args .table .now) (c .before .before .before .before .before .before .before .before .before .before .before .before .before .before .before .before .before .prepare .last .1 .0) (c .before .before .before .before .before .before .before .before .before .before .before .before .before .before .before .before .before .prepare .last .1 .1 .0) (c .before .before .before .before .before .before .before .before .before .before .before .before .before .before .before .before .before .prepare .last .1 .1 .1 .0) (c .before .before .before .before .before .before .before .before .before .before .before .before .before .before .before .before .before .prepare .last .1 .1 .1 .1 .0) (c .before .before .before .before .before .before .before .before .before .before .before .before .before .before .before .before .before .prepare .result .passing) (c .before .before .before .before .before .before .before .before .before .before .before .before .before .before .before .before .before .prepare .result) (c .before .before .before .before .before .before .before .before .before .before .before .before .before .before .before .before .before .prepare .ensures) (c .before .before .before .before .before .before .before .before .before .before .before .enum-told .given .1) in let f = checked-fine (c .before .before .before .before .before .before .before .before .before .before .before .before .before .before .before .before .before .before .before .before .before .before .before .before .before .args .children .now) (c .before .before .before .before .before .before .before .before .before .check .result) (c .before .before .before .before .before .before .before .before .before .check .ensures) (c .before .before .before .before .before .before .before .enum-told2 .given .1) in (record { starts-room = search needs; lengths-room = search needs; names-room = search needs; few = m .few }, (search needs, (f .0, (m .model, m .known))))
+place-children-requires c κs =
+    let m = is-ready
+    (c .before .before .before .before .before .before .before .before .before .before .before .before .before .before .before .before .before .before .before .before .before .before .before .before .before .args .table .now)
+    (c .before .before .before .before .before .before .before .before .before .before .before .before .before .before .before .before .before .prepare .last .1 .0)
+    (c .before .before .before .before .before .before .before .before .before .before .before .before .before .before .before .before .before .prepare .last .1 .1 .0)
+    (c .before .before .before .before .before .before .before .before .before .before .before .before .before .before .before .before .before .prepare .last .1 .1 .1 .0)
+    (c .before .before .before .before .before .before .before .before .before .before .before .before .before .before .before .before .before .prepare .last .1 .1 .1 .1 .0)
+    (c .before .before .before .before .before .before .before .before .before .before .before .before .before .before .before .before .before .prepare .result .passing)
+    (c .before .before .before .before .before .before .before .before .before .before .before .before .before .before .before .before .before .prepare .result)
+    (c .before .before .before .before .before .before .before .before .before .before .before .before .before .before .before .before .before .prepare .ensures)
+    (c .before .before .before .before .before .before .before .before .before .before .before .enum-told .given .1)
+    in
+    let f = checked-fine
+    (c .before .before .before .before .before .before .before .before .before .before .before .before .before .before .before .before .before .before .before .before .before .before .before .before .before .args .children .now)
+    (c .before .before .before .before .before .before .before .before .before .check .result)
+    (c .before .before .before .before .before .before .before .before .before .check .ensures)
+    (c .before .before .before .before .before .before .before .enum-told2 .given .1) in (
+      record { starts-room = search needs; lengths-room = search needs; names-room = search needs; few = m .few },
+      (search needs, (f .0, (m .model, m .known))),
+    )
 
 answer-of-requires : tie.Need-answer-of-requires
-answer-of-requires c κs = let m = is-ready (c .before .before .before .before .before .before .before .before .before .before .before .before .before .before .before .before .before .before .before .before .before .before .before .before .before .before .before .before .args .table .now) (c .before .before .before .before .before .before .before .before .before .before .before .before .before .before .before .before .before .before .before .before .prepare .last .1 .0) (c .before .before .before .before .before .before .before .before .before .before .before .before .before .before .before .before .before .before .before .before .prepare .last .1 .1 .0) (c .before .before .before .before .before .before .before .before .before .before .before .before .before .before .before .before .before .before .before .before .prepare .last .1 .1 .1 .0) (c .before .before .before .before .before .before .before .before .before .before .before .before .before .before .before .before .before .before .before .before .prepare .last .1 .1 .1 .1 .0) (c .before .before .before .before .before .before .before .before .before .before .before .before .before .before .before .before .before .before .before .before .prepare .result .passing) (c .before .before .before .before .before .before .before .before .before .before .before .before .before .before .before .before .before .before .before .before .prepare .result) (c .before .before .before .before .before .before .before .before .before .before .before .before .before .before .before .before .before .before .before .before .prepare .ensures) (c .before .before .before .before .before .before .before .before .before .before .before .before .before .before .enum-told .given .1) in let f = checked-fine (c .before .before .before .before .before .before .before .before .before .before .before .before .before .before .before .before .before .before .before .before .before .before .before .before .before .before .before .before .args .children .now) (c .before .before .before .before .before .before .before .before .before .before .before .before .check .result) (c .before .before .before .before .before .before .before .before .before .before .before .before .check .ensures) (c .before .before .before .before .before .before .before .before .before .before .enum-told2 .given .1) in walked-few (m .model) (c .before .before .before .before .before .before .before .before .before .before .before .before .before .before .before .before .before .before .before .before .before .before .before .before .before .before .before .before .args .children .now) (c .before .before .before .before .before .before .before .before .before .before .before .before .before .before .before .before .before .before .before .before .before .before .before .before .before .before .before .before .args .slots .now) (c .before .before .place-children .result) (c .before .before .place-children .last .1 .1 .1 .1 .1 .1 .1 .1 .0) (f .0) (f .1) (c .before .before .place-children .ensures .1 (m .model) (m .known) (checked-sound (c .before .before .before .before .before .before .before .before .before .before .before .before .before .before .before .before .before .before .before .before .before .before .before .before .before .before .before .before .args .children .now) (f .1)))
+answer-of-requires c κs =
+    let c2 = c .before .before in
+    let c10 = c2 .before .before .before .before .before .before .before .before in
+    let c12 = c10 .before .before in
+    let c14 = c12 .before .before in
+    let c20 = c14 .before .before .before .before .before .before in
+    let c28 = c20 .before .before .before .before .before .before .before .before in
+    let m = is-ready (c28 .args .table .now) (c20 .prepare .last .1 .0) (c20 .prepare .last .1 .1 .0)
+    (c20 .prepare .last .1 .1 .1 .0) (c20 .prepare .last .1 .1 .1 .1 .0) (c20 .prepare .result .passing)
+    (c20 .prepare .result) (c20 .prepare .ensures) (c14 .enum-told .given .1) in
+    let f = checked-fine (c28 .args .children .now) (c12 .check .result) (c12 .check .ensures)
+    (c10 .enum-told2 .given .1) in
+    walked-few (m .model) (c28 .args .children .now) (c28 .args .slots .now) (c2 .place-children .result)
+    (c2 .place-children .last .1 .1 .1 .1 .1 .1 .1 .1 .0) (f .0) (f .1) (c2 .place-children .ensures .1 (m .model)
+    (m .known) (checked-sound (c28 .args .children .now) (f .1)))
 
 same-length : tie.Need-same-length
 same-length c = search needs
 
 returns-4 : tie.Need-returns-4
-returns-4 c = let m = is-ready (c .before .before .before .before .before .before .before .before .before .before .before .before .before .before .before .before .before .before .before .before .before .before .before .before .before .before .before .before .before .args .table .now) (c .before .before .before .before .before .before .before .before .before .before .before .before .before .before .before .before .before .before .before .before .before .prepare .last .1 .0) (c .before .before .before .before .before .before .before .before .before .before .before .before .before .before .before .before .before .before .before .before .before .prepare .last .1 .1 .0) (c .before .before .before .before .before .before .before .before .before .before .before .before .before .before .before .before .before .before .before .before .before .prepare .last .1 .1 .1 .0) (c .before .before .before .before .before .before .before .before .before .before .before .before .before .before .before .before .before .before .before .before .before .prepare .last .1 .1 .1 .1 .0) (c .before .before .before .before .before .before .before .before .before .before .before .before .before .before .before .before .before .before .before .before .before .prepare .result .passing) (c .before .before .before .before .before .before .before .before .before .before .before .before .before .before .before .before .before .before .before .before .before .prepare .result) (c .before .before .before .before .before .before .before .before .before .before .before .before .before .before .before .before .before .before .before .before .before .prepare .ensures) (c .before .before .before .before .before .before .before .before .before .before .before .before .before .before .before .enum-told .given .1) in let f = checked-fine (c .before .before .before .before .before .before .before .before .before .before .before .before .before .before .before .before .before .before .before .before .before .before .before .before .before .before .before .before .before .args .children .now) (c .before .before .before .before .before .before .before .before .before .before .before .before .before .check .result) (c .before .before .before .before .before .before .before .before .before .before .before .before .before .check .ensures) (c .before .before .before .before .before .before .before .before .before .before .before .enum-told2 .given .1) in let w = c .before .before .before .place-children .result in subst (λ r. MatchAnswer (c .before .before .before .before .before .before .before .before .before .before .before .before .before .before .before .before .before .before .before .before .before .before .before .before .before .before .before .before .before .args .table .now) (c .before .before .before .before .before .before .before .before .before .before .before .before .before .before .before .before .before .before .before .before .before .before .before .before .before .before .before .before .before .args .children .now) (c .before .before .before .before .before .before .before .before .before .before .before .before .before .before .before .before .before .before .before .before .before .before .before .before .before .before .before .before .before .args .slots .now) r (c .before .before .before .place-children .last .1 .1 .1 .1 .1 .1 .1 .1 .0)) (sym (c .answer-of .ensures)) (match-placed (c .before .before .before .before .before .before .before .before .before .before .before .before .before .before .before .before .before .before .before .before .before .before .before .before .before .before .before .before .before .args .table .now) (c .before .before .before .before .before .before .before .before .before .before .before .before .before .before .before .before .before .before .before .before .before .before .before .before .before .before .before .before .before .args .children .now) (c .before .before .before .before .before .before .before .before .before .before .before .before .before .before .before .before .before .before .before .before .before .before .before .before .before .before .before .before .before .args .slots .now) _ (c .before .before .before .place-children .last .1 .1 .1 .1 .1 .1 .1 .1 .0) (walk-placed (c .before .before .before .before .before .before .before .before .before .before .before .before .before .before .before .before .before .before .before .before .before .before .before .before .before .before .before .before .before .args .table .now) (c .before .before .before .before .before .before .before .before .before .before .before .before .before .before .before .before .before .before .before .before .before .before .before .before .before .before .before .before .before .args .children .now) (c .before .before .before .before .before .before .before .before .before .before .before .before .before .before .before .before .before .before .before .before .before .before .before .before .before .before .before .before .before .args .slots .now) (m .model) (m .passed) (f .0) (f .1) w (c .before .before .before .place-children .last .1 .1 .1 .1 .1 .1 .1 .1 .0) (c .before .before .before .place-children .ensures .1 (m .model) (m .known) (checked-sound (c .before .before .before .before .before .before .before .before .before .before .before .before .before .before .before .before .before .before .before .before .before .before .before .before .before .before .before .before .before .args .children .now) (f .1))) _ (m .stops (w .held .0)) (search needs)))
+returns-4 c =
+    let m = is-ready
+    (c .before .before .before .before .before .before .before .before .before .before .before .before .before .before .before .before .before .before .before .before .before .before .before .before .before .before .before .before .before .args .table .now)
+    (c .before .before .before .before .before .before .before .before .before .before .before .before .before .before .before .before .before .before .before .before .before .prepare .last .1 .0)
+    (c .before .before .before .before .before .before .before .before .before .before .before .before .before .before .before .before .before .before .before .before .before .prepare .last .1 .1 .0)
+    (c .before .before .before .before .before .before .before .before .before .before .before .before .before .before .before .before .before .before .before .before .before .prepare .last .1 .1 .1 .0)
+    (c .before .before .before .before .before .before .before .before .before .before .before .before .before .before .before .before .before .before .before .before .before .prepare .last .1 .1 .1 .1 .0)
+    (c .before .before .before .before .before .before .before .before .before .before .before .before .before .before .before .before .before .before .before .before .before .prepare .result .passing)
+    (c .before .before .before .before .before .before .before .before .before .before .before .before .before .before .before .before .before .before .before .before .before .prepare .result)
+    (c .before .before .before .before .before .before .before .before .before .before .before .before .before .before .before .before .before .before .before .before .before .prepare .ensures)
+    (c .before .before .before .before .before .before .before .before .before .before .before .before .before .before .before .enum-told .given .1)
+    in
+    let f = checked-fine
+    (c .before .before .before .before .before .before .before .before .before .before .before .before .before .before .before .before .before .before .before .before .before .before .before .before .before .before .before .before .before .args .children .now)
+    (c .before .before .before .before .before .before .before .before .before .before .before .before .before .check .result)
+    (c .before .before .before .before .before .before .before .before .before .before .before .before .before .check .ensures)
+    (c .before .before .before .before .before .before .before .before .before .before .before .enum-told2 .given .1)
+    in
+    let w = c .before .before .before .place-children .result in
+    subst (λ r. MatchAnswer
+    (c .before .before .before .before .before .before .before .before .before .before .before .before .before .before .before .before .before .before .before .before .before .before .before .before .before .before .before .before .before .args .table .now)
+    (c .before .before .before .before .before .before .before .before .before .before .before .before .before .before .before .before .before .before .before .before .before .before .before .before .before .before .before .before .before .args .children .now)
+    (c .before .before .before .before .before .before .before .before .before .before .before .before .before .before .before .before .before .before .before .before .before .before .before .before .before .before .before .before .before .args .slots .now)
+    r (c .before .before .before .place-children .last .1 .1 .1 .1 .1 .1 .1 .1 .0)) (sym (c .answer-of .ensures))
+    (match-placed
+    (c .before .before .before .before .before .before .before .before .before .before .before .before .before .before .before .before .before .before .before .before .before .before .before .before .before .before .before .before .before .args .table .now)
+    (c .before .before .before .before .before .before .before .before .before .before .before .before .before .before .before .before .before .before .before .before .before .before .before .before .before .before .before .before .before .args .children .now)
+    (c .before .before .before .before .before .before .before .before .before .before .before .before .before .before .before .before .before .before .before .before .before .before .before .before .before .before .before .before .before .args .slots .now)
+    _ (c .before .before .before .place-children .last .1 .1 .1 .1 .1 .1 .1 .1 .0) (walk-placed
+    (c .before .before .before .before .before .before .before .before .before .before .before .before .before .before .before .before .before .before .before .before .before .before .before .before .before .before .before .before .before .args .table .now)
+    (c .before .before .before .before .before .before .before .before .before .before .before .before .before .before .before .before .before .before .before .before .before .before .before .before .before .before .before .before .before .args .children .now)
+    (c .before .before .before .before .before .before .before .before .before .before .before .before .before .before .before .before .before .before .before .before .before .before .before .before .before .before .before .before .before .args .slots .now)
+    (m .model) (m .passed) (f .0) (f .1) w
+    (c .before .before .before .place-children .last .1 .1 .1 .1 .1 .1 .1 .1 .0)
+    (c .before .before .before .place-children .ensures .1 (m .model) (m .known) (checked-sound
+    (c .before .before .before .before .before .before .before .before .before .before .before .before .before .before .before .before .before .before .before .before .before .before .before .before .before .before .before .before .before .args .children .now)
+    (f .1))) _ (m .stops (w .held .0)) (search needs)))
 
 pub match-children-spec : {M : Type 1} → statement M
 match-children-spec =

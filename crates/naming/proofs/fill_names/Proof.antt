@@ -1,4 +1,5 @@
--- `naming::fill_names` meets its contract: what is written, and what is still in the words, are the names. Assumes nothing.
+-- `naming::fill_names` meets its contract: what is written, and what is still in the words, are the names. Assumes
+-- nothing.
 use borrow.Author.Needs.{needs}
 use borrow.Author.Tests.{not-true, not-false}
 use mathlib.Core.Path.{_≡_, refl, sym, ap, _∙_}
@@ -13,7 +14,8 @@ use Rattle.naming.proofs.fill_names.Statement.{statement}
 use Rattle.naming.proofs.fill_names.Tie as tie
 
 abbrev Inv-loop : tie.InvT-loop
-Inv-loop words names₀ n₀ i₀ names n i = (i ≤ length words) × ((n ≤ slotLimit) × ((length names ≡ slotLimit) × Filling words names n i))
+Inv-loop words names₀ n₀ i₀ names n i = (i ≤ length words) × ((n ≤ slotLimit) × ((length names ≡ slotLimit) × Filling
+    words names n i))
 
 abbrev μ-loop : tie.MeasureT-loop
 μ-loop words names₀ n₀ i₀ names n i = length words - i
@@ -40,28 +42,94 @@ loop-less : tie.Need-loop-less Inv-loop μ-loop
 loop-less c = search needs
 
 loop-again : tie.Need-loop-again Inv-loop μ-loop
-loop-again c = (search needs, (search needs, (search needs, names-skip (c .before .before .before .before .before .before .before .before .args .words .now) (c .before .before .before .before .before .loop .names) (c .before .before .before .before .before .loop .n) (c .before .before .before .before .before .loop .i) (c .before .before .before .before .loop-test .taken) (c .before .before .before .before .before .loop .inv .1 .1 .1) (sym (c .before .is-name .ensures ∙ ap (λ z. isName (z .kind)) (c .before .before .node-of .ensures)) ∙ not-true _ (c .if1 .taken)))))
+loop-again c = (
+  search needs,
+  (
+    search needs,
+    (
+      search needs,
+      names-skip
+          (c .before .before .before .before .before .before .before .before .args .words .now)
+          (c .before .before .before .before .before .loop .names) (c .before .before .before .before .before .loop .n)
+          (c .before .before .before .before .before .loop .i) (c .before .before .before .before .loop-test .taken)
+          (c .before .before .before .before .before .loop .inv .1 .1 .1) (sym (c .before .is-name .ensures ∙ ap (λ z.
+          isName (z .kind)) (c .before .before .node-of .ensures)) ∙ not-true _ (c .if1 .taken)),
+    ),
+  ),
+)
 
 mul-names : tie.Need-mul-names Inv-loop μ-loop
-mul-names c = omega (arith, names-room (c .before .before .before .before .before .before .before .before .args .words .now) (c .before .before .before .before .before .loop .names) (c .before .before .before .before .before .loop .n) (c .before .before .before .before .before .loop .i) (c .before .before .before .before .loop-test .taken) (c .before .before .before .before .before .loop .inv .1 .1 .1) (sym (c .before .is-name .ensures ∙ ap (λ z. isName (z .kind)) (c .before .before .node-of .ensures)) ∙ not-false _ (c .if1 .left)) (search needs))
+mul-names c =
+    omega (
+      arith,
+      names-room (c .before .before .before .before .before .before .before .before .args .words .now)
+          (c .before .before .before .before .before .loop .names) (c .before .before .before .before .before .loop .n)
+          (c .before .before .before .before .before .loop .i) (c .before .before .before .before .loop-test .taken)
+          (c .before .before .before .before .before .loop .inv .1 .1 .1) (sym (c .before .is-name .ensures ∙ ap (λ z.
+          isName (z .kind)) (c .before .before .node-of .ensures)) ∙ not-false _ (c .if1 .left)) (search needs),
+    )
 
 slice-write-names : tie.Need-slice-write-names Inv-loop μ-loop
-slice-write-names c = omega (arith, names-room (c .before .before .before .before .before .before .before .before .args .words .now) (c .before .before .before .before .before .loop .names) (c .before .before .before .before .before .loop .n) (c .before .before .before .before .before .loop .i) (c .before .before .before .before .loop-test .taken) (c .before .before .before .before .before .loop .inv .1 .1 .1) (sym (c .before .is-name .ensures ∙ ap (λ z. isName (z .kind)) (c .before .before .node-of .ensures)) ∙ not-false _ (c .if1 .left)) (search needs))
+slice-write-names c =
+    omega (
+      arith,
+      names-room (c .before .before .before .before .before .before .before .before .args .words .now)
+          (c .before .before .before .before .before .loop .names) (c .before .before .before .before .before .loop .n)
+          (c .before .before .before .before .before .loop .i) (c .before .before .before .before .loop-test .taken)
+          (c .before .before .before .before .before .loop .inv .1 .1 .1) (sym (c .before .is-name .ensures ∙ ap (λ z.
+          isName (z .kind)) (c .before .before .node-of .ensures)) ∙ not-false _ (c .if1 .left)) (search needs),
+    )
 
 add-n : tie.Need-add-n Inv-loop μ-loop
-add-n c = omega (arith, names-room (c .before .before .before .before .before .before .before .before .args .words .now) (c .before .before .before .before .before .loop .names) (c .before .before .before .before .before .loop .n) (c .before .before .before .before .before .loop .i) (c .before .before .before .before .loop-test .taken) (c .before .before .before .before .before .loop .inv .1 .1 .1) (sym (c .before .is-name .ensures ∙ ap (λ z. isName (z .kind)) (c .before .before .node-of .ensures)) ∙ not-false _ (c .if1 .left)) (search needs))
+add-n c =
+    omega (
+      arith,
+      names-room (c .before .before .before .before .before .before .before .before .args .words .now)
+          (c .before .before .before .before .before .loop .names) (c .before .before .before .before .before .loop .n)
+          (c .before .before .before .before .before .loop .i) (c .before .before .before .before .loop-test .taken)
+          (c .before .before .before .before .before .loop .inv .1 .1 .1) (sym (c .before .is-name .ensures ∙ ap (λ z.
+          isName (z .kind)) (c .before .before .node-of .ensures)) ∙ not-false _ (c .if1 .left)) (search needs),
+    )
 
 loop-less-2 : tie.Need-loop-less-2 Inv-loop μ-loop
 loop-less-2 c = search needs
 
 loop-again-2 : tie.Need-loop-again-2 Inv-loop μ-loop
-loop-again-2 c = let r = names-room (c .before .before .before .before .before .before .before .before .args .words .now) (c .before .before .before .before .before .loop .names) (c .before .before .before .before .before .loop .n) (c .before .before .before .before .before .loop .i) (c .before .before .before .before .loop-test .taken) (c .before .before .before .before .before .loop .inv .1 .1 .1) (sym (c .before .is-name .ensures ∙ ap (λ z. isName (z .kind)) (c .before .before .node-of .ensures)) ∙ not-false _ (c .if1 .left)) (search needs) in let e = ap (λ z. z .value) (c .before .before .node-of .ensures) in (search needs, (omega (arith, r), (omega (arith, length-set (c .before .before .before .before .before .loop .names) (c .before .before .before .before .before .loop .n) (c .before .before .node-of .result .value)), rw e (names-put (c .before .before .before .before .before .before .before .before .args .words .now) (c .before .before .before .before .before .loop .names) (c .before .before .before .before .before .loop .n) (c .before .before .before .before .before .loop .i) (c .before .before .before .before .loop-test .taken) (c .before .before .before .before .before .loop .inv .1 .1 .1) (sym (c .before .is-name .ensures ∙ ap (λ z. isName (z .kind)) (c .before .before .node-of .ensures)) ∙ not-false _ (c .if1 .left)) (omega (arith, r))))))
+loop-again-2 c =
+    let r = names-room (c .before .before .before .before .before .before .before .before .args .words .now)
+    (c .before .before .before .before .before .loop .names) (c .before .before .before .before .before .loop .n)
+    (c .before .before .before .before .before .loop .i) (c .before .before .before .before .loop-test .taken)
+    (c .before .before .before .before .before .loop .inv .1 .1 .1) (sym (c .before .is-name .ensures ∙ ap (λ z.
+    isName (z .kind)) (c .before .before .node-of .ensures)) ∙ not-false _ (c .if1 .left)) (search needs) in
+    let e = ap (λ z. z .value) (c .before .before .node-of .ensures) in (
+      search needs,
+      (
+        omega (arith, r),
+        (
+          omega (
+            arith,
+            length-set
+                (c .before .before .before .before .before .loop .names) (c .before .before .before .before .before .loop .n)
+                (c .before .before .node-of .result .value),
+          ),
+          rw e (names-put
+              (c .before .before .before .before .before .before .before .before .args .words .now)
+              (c .before .before .before .before .before .loop .names) (c .before .before .before .before .before .loop .n)
+              (c .before .before .before .before .before .loop .i) (c .before .before .before .before .loop-test .taken)
+              (c .before .before .before .before .before .loop .inv .1 .1 .1) (sym (c .before .is-name .ensures ∙ ap (λ z.
+              isName (z .kind)) (c .before .before .node-of .ensures)) ∙ not-false _ (c .if1 .left)) (omega (arith, r))),
+        ),
+      ),
+    )
 
 same-length : tie.Need-same-length Inv-loop μ-loop
 same-length c = search needs
 
 returns : tie.Need-returns Inv-loop μ-loop
-returns c = let e = names-all (c .before .before .before .before .args .words .now) (c .before .loop .names) (c .before .loop .n) (c .before .loop .i) (search needs) (c .before .loop .inv .1 .1 .1) in record { room = search needs; count = sym (length-take-le _ _ (search needs)) ∙ ap length e; filled = e }
+returns c =
+    let e = names-all (c .before .before .before .before .args .words .now) (c .before .loop .names)
+    (c .before .loop .n) (c .before .loop .i) (search needs) (c .before .loop .inv .1 .1 .1) in
+    record { room = search needs; count = sym (length-take-le _ _ (search needs)) ∙ ap length e; filled = e }
 
 pub fill-names-spec : {M : Type 1} → statement M
 fill-names-spec =

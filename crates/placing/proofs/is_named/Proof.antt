@@ -10,7 +10,13 @@ use Rattle.placing.proofs.is_named.Statement.{statement}
 use Rattle.placing.proofs.is_named.Tie as tie
 
 returns : tie.Need-returns
-returns c = λ e. c .if1 .taken (sym (length-take-le _ _ (omega (arith, length-drop (c .before .before .before .args .start) (c .before .before .before .args .table .now), c .before .before .before .pre))) ∙ ap length e)
+returns c =
+    let c3 = c .before .before .before in
+    λ e. c .if1 .taken (sym (length-take-le _ _ (omega (
+      arith,
+      length-drop (c3 .args .start) (c3 .args .table .now),
+      c3 .pre,
+    ))) ∙ ap length e)
 
 add-end : tie.Need-add-end
 add-end c = search needs
@@ -28,7 +34,11 @@ same-requires : tie.Need-same-requires
 same-requires c κs = search needs
 
 returns-2 : tie.Need-returns-2
-returns-2 c = let z : c .before .before .before .before .before .args .start + c .before .before .before .before .before .args .size - c .before .before .before .before .before .args .start ≡ c .before .before .before .before .before .args .size = omega arith in subst (λ n. Says (take n (drop (c .before .before .before .before .before .args .start) (c .before .before .before .before .before .args .table .now)) ≡ c .before .before .before .before .before .args .name .now) (c .same .result)) z (c .same .ensures)
+returns-2 c =
+    let c5 = c .before .before .before .before .before in
+    let z : c5 .args .start + c5 .args .size - c5 .args .start ≡ c5 .args .size = omega arith in
+    subst (λ n. Says (take n (drop (c5 .args .start) (c5 .args .table .now)) ≡ c5 .args .name .now) (c .same .result))
+    z (c .same .ensures)
 
 pub is-named-spec : {M : Type 1} → statement M
 is-named-spec =

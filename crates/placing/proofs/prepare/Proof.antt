@@ -30,10 +30,22 @@ part-weigh-start : tie.Need-part-weigh-start
 part-weigh-start c = search needs
 
 part-weigh-end : tie.Need-part-weigh-end
-part-weigh-end c = let m = loaded (c .before .before .before .before .before .before .before .before .before .before .before .before .before .before .before .before .before .before .before .args .table .now) (c .before .before .before .before .before .before .before .before .before .before .load .last .1 .0) (c .before .before .before .before .before .before .before .before .before .before .load .last .1 .1 .0) (c .before .before .before .before .before .before .before .before .before .before .load .last .1 .1 .1 .0) _ (c .before .before .loaded2 .given .0 .0) (c .before .before .before .before .before .before .before .before .before .before .load .ensures) (c .before .before .loaded2 .given .1) in omega (arith, m .within)
+part-weigh-end c =
+    let c2 = c .before .before in
+    let c10 = c2 .before .before .before .before .before .before .before .before in
+    let c19 = c10 .before .before .before .before .before .before .before .before .before in
+    let m = loaded (c19 .args .table .now) (c10 .load .last .1 .0) (c10 .load .last .1 .1 .0)
+    (c10 .load .last .1 .1 .1 .0) _ (c2 .loaded2 .given .0 .0) (c10 .load .ensures) (c2 .loaded2 .given .1) in
+    omega (arith, m .within)
 
 weigh-requires : tie.Need-weigh-requires
-weigh-requires c κs = let m = loaded (c .before .before .before .before .before .before .before .before .before .before .before .before .before .before .before .before .before .before .before .before .before .before .args .table .now) (c .before .before .before .before .before .before .before .before .before .before .before .before .before .load .last .1 .0) (c .before .before .before .before .before .before .before .before .before .before .before .before .before .load .last .1 .1 .0) (c .before .before .before .before .before .before .before .before .before .before .before .before .before .load .last .1 .1 .1 .0) _ (c .before .before .before .before .before .loaded2 .given .0 .0) (c .before .before .before .before .before .before .before .before .before .before .before .before .before .load .ensures) (c .before .before .before .before .before .loaded2 .given .1) in (c .before .before .before .before .before .before .before .before .before .before .before .before .before .before .before .before .before .before .before .before .before .before .pre .1 .1 .0, (c .before .before .before .before .before .before .before .before .before .before .before .before .before .before .before .before .before .before .before .before .before .before .pre .1 .1 .1, (numbers (m .model), m .fits)))
+weigh-requires c κs =
+    let c5 = c .before .before .before .before .before in
+    let c13 = c5 .before .before .before .before .before .before .before .before in
+    let c22 = c13 .before .before .before .before .before .before .before .before .before in
+    let m = loaded (c22 .args .table .now) (c13 .load .last .1 .0) (c13 .load .last .1 .1 .0)
+    (c13 .load .last .1 .1 .1 .0) _ (c5 .loaded2 .given .0 .0) (c13 .load .ensures) (c5 .loaded2 .given .1) in
+    (c22 .pre .1 .1 .0, (c22 .pre .1 .1 .1, (numbers (m .model), m .fits)))
 
 passing-of-requires : tie.Need-passing-of-requires
 passing-of-requires c κs = search needs
@@ -45,7 +57,11 @@ same-length-2 : tie.Need-same-length-2
 same-length-2 c = search needs
 
 returns : tie.Need-returns
-returns c = refused (not-loaded (c .before .before .before .before .before .before .before .before .before .before .before .before .before .before .before .before .before .before .args .table .now) (c .before .before .before .before .before .before .before .before .before .load .last .1 .0) (c .before .before .before .before .before .before .before .before .before .load .last .1 .1 .0) (c .before .before .before .before .before .before .before .before .before .load .last .1 .1 .1 .0) _ (c .before .loaded .given .0 .0) (c .before .before .before .before .before .before .before .before .before .load .ensures) (c .before .loaded .given .1))
+returns c =
+    let c9 = c .before .before .before .before .before .before .before .before .before in
+    let c18 = c9 .before .before .before .before .before .before .before .before .before in
+    refused (not-loaded (c18 .args .table .now) (c9 .load .last .1 .0) (c9 .load .last .1 .1 .0)
+    (c9 .load .last .1 .1 .1 .0) _ (c .before .loaded .given .0 .0) (c9 .load .ensures) (c .before .loaded .given .1))
 
 same-length-3 : tie.Need-same-length-3
 same-length-3 c = search needs
@@ -60,7 +76,18 @@ same-length-6 : tie.Need-same-length-6
 same-length-6 c = search needs
 
 returns-2 : tie.Need-returns-2
-returns-2 c = let m = loaded (c .before .before .before .before .before .before .before .before .before .before .before .before .before .before .before .before .before .before .before .before .before .before .before .before .before .before .before .before .before .before .args .table .now) (c .before .before .before .before .before .before .before .before .before .before .before .before .before .before .before .before .before .before .before .before .before .load .last .1 .0) (c .before .before .before .before .before .before .before .before .before .before .before .before .before .before .before .before .before .before .before .before .before .load .last .1 .1 .0) (c .before .before .before .before .before .before .before .before .before .before .before .before .before .before .before .before .before .before .before .before .before .load .last .1 .1 .1 .0) _ (c .before .before .before .before .before .before .before .before .before .before .before .before .before .loaded2 .given .0 .0) (c .before .before .before .before .before .before .before .before .before .before .before .before .before .before .before .before .before .before .before .before .before .load .ensures) (c .before .before .before .before .before .before .before .before .before .before .before .before .before .loaded2 .given .1) in prepared-by (c .before .before .before .before .before .before .before .before .before .before .before .before .before .before .before .before .before .before .before .before .before .before .before .before .before .before .before .before .before .before .args .table .now) (c .before .before .before .before .before .before .before .before .before .before .before .before .before .before .before .before .before .before .before .before .before .load .last .1 .0) (c .before .before .before .before .before .before .before .before .before .before .before .before .before .before .before .before .before .before .before .before .before .load .last .1 .1 .0) (c .before .before .before .before .before .before .before .before .before .before .before .before .before .before .before .before .before .before .before .before .before .load .last .1 .1 .1 .0) (c .before .before .before .before .before .before .before .weigh .last .1 .0) (c .before .before .before .before .before .before .before .weigh .last .1 .1 .0) (c .before .before .before .before .before .before .before .before .before .before .before .before .before .loaded2 .given .0 .0) m (c .before .before .before .before .before .before .before .weigh .result) (c .before .before .before .before .before .before .before .weigh .ensures .1 .1 (numbers (m .model)) (m .fits)) (c .before .before .passing-of .result) (c .before .before .passing-of .ensures)
+returns-2 c =
+    let c2 = c .before .before in
+    let c7 = c2 .before .before .before .before .before in
+    let c13 = c7 .before .before .before .before .before .before in
+    let c21 = c13 .before .before .before .before .before .before .before .before in
+    let c30 = c21 .before .before .before .before .before .before .before .before .before in
+    let m = loaded (c30 .args .table .now) (c21 .load .last .1 .0) (c21 .load .last .1 .1 .0)
+    (c21 .load .last .1 .1 .1 .0) _ (c13 .loaded2 .given .0 .0) (c21 .load .ensures) (c13 .loaded2 .given .1) in
+    prepared-by (c30 .args .table .now) (c21 .load .last .1 .0) (c21 .load .last .1 .1 .0)
+    (c21 .load .last .1 .1 .1 .0) (c7 .weigh .last .1 .0) (c7 .weigh .last .1 .1 .0) (c13 .loaded2 .given .0 .0) m
+    (c7 .weigh .result) (c7 .weigh .ensures .1 .1 (numbers (m .model)) (m .fits)) (c2 .passing-of .result)
+    (c2 .passing-of .ensures)
 
 pub prepare-spec : {M : Type 1} → statement M
 prepare-spec =

@@ -45,15 +45,18 @@ particle-below t =
     and 4 particle-kinds.ps (falls 4 particle-kinds.ps _<_ μ-particle t) particle.Pre
 
 abbrev group-Inv-loop : group-lts.InvT-loop
-group-Inv-loop text words₀ starts₀ lengths₀ at deep node so-far₀ i₀ members₀ sep₀ words starts lengths so-far i members sep =
+group-Inv-loop text words₀ starts₀ lengths₀ at deep node so-far₀ i₀ members₀ sep₀ words starts lengths so-far i
+    members sep =
     Going text at deep
-    (record { nodes = node; slots = so-far₀ .slots; names = so-far₀ .names }) words₀ starts₀ lengths₀ i so-far members sep words starts lengths
+    (record { nodes = node; slots = so-far₀ .slots; names = so-far₀ .names }) words₀ starts₀ lengths₀ i so-far members
+    sep words starts lengths
     × (length words ≡ length words₀)
     × (length starts ≡ length starts₀)
     × (length lengths ≡ length lengths₀)
 
 abbrev group-μ-loop : group-lts.MeasureT-loop
-group-μ-loop text words₀ starts₀ lengths₀ at deep node so-far₀ i₀ members₀ sep₀ words starts lengths so-far i members sep = length text - i
+group-μ-loop text words₀ starts₀ lengths₀ at deep node so-far₀ i₀ members₀ sep₀ words starts lengths so-far i members
+    sep = length text - i
 
 group-returns : (t : ℕ) → group-lts.Need-returns (
   particle-below t,
@@ -162,7 +165,8 @@ group-same-length : (t : ℕ) → group-lts.Need-same-length (
   close-reads.Learnt,
 ) (group-at t) group.Post group-Inv-loop group-μ-loop
 group-same-length t c = c .before .before .before .before .before .before .before .before .before .particle .kept .1 .0
-    ∙ c .before .before .before .before .before .before .before .before .before .before .before .before .before .loop .inv .1
+    ∙
+    c .before .before .before .before .before .before .before .before .before .before .before .before .before .loop .inv .1
 
 group-same-length-2 : (t : ℕ) → group-lts.Need-same-length-2 (
   particle-below t,
@@ -172,7 +176,9 @@ group-same-length-2 : (t : ℕ) → group-lts.Need-same-length-2 (
   close-reads.Asked,
   close-reads.Learnt,
 ) (group-at t) group.Post group-Inv-loop group-μ-loop
-group-same-length-2 t c = c .before .before .before .before .before .before .before .before .before .particle .kept .1 .1 .0 ∙ c .before .before .before .before .before .before .before .before .before .before .before .before .before .loop .inv .2
+group-same-length-2 t c =
+    c .before .before .before .before .before .before .before .before .before .particle .kept .1 .1 .0 ∙
+    c .before .before .before .before .before .before .before .before .before .before .before .before .before .loop .inv .2
 
 group-same-length-3 : (t : ℕ) → group-lts.Need-same-length-3 (
   particle-below t,
@@ -182,7 +188,9 @@ group-same-length-3 : (t : ℕ) → group-lts.Need-same-length-3 (
   close-reads.Asked,
   close-reads.Learnt,
 ) (group-at t) group.Post group-Inv-loop group-μ-loop
-group-same-length-3 t c = c .before .before .before .before .before .before .before .before .before .particle .kept .1 .1 .1 .0 ∙ c .before .before .before .before .before .before .before .before .before .before .before .before .before .loop .inv .3
+group-same-length-3 t c =
+    c .before .before .before .before .before .before .before .before .before .particle .kept .1 .1 .1 .0 ∙
+    c .before .before .before .before .before .before .before .before .before .before .before .before .before .loop .inv .3
 
 group-returns-3 : (t : ℕ) → group-lts.Need-returns-3 (
   particle-below t,
@@ -193,8 +201,11 @@ group-returns-3 : (t : ℕ) → group-lts.Need-returns-3 (
   close-reads.Learnt,
 ) (group-at t) group.Post group-Inv-loop group-μ-loop
 group-returns-3 t c =
-    let s = c .before .before .before .before .before .before .before .before .before .before .before .before .before .before .before .before .before .before .before .before in
-    let l = c .before .before .before .before .before .before .before .before .before .before .before .before .before .loop in
+    let s =
+    c .before .before .before .before .before .before .before .before .before .before .before .before .before .before .before .before .before .before .before .before
+    in
+    let l =
+    c .before .before .before .before .before .before .before .before .before .before .before .before .before .loop in
     let q = c .before .before .before .before .before .before .before .before .before .particle in
     let p = phrase-is Wants _ (l .i) (s .args .deep + 1) (l .so-far) (l .words) (l .starts) (l .lengths)
     (q .last .1 .0) (q .last .1 .1 .0) (q .last .1 .1 .1 .0) (q .ensures) (c .before .p .given .1) in
@@ -219,8 +230,11 @@ group-add-members : (t : ℕ) → group-lts.Need-add-members (
   close-reads.Learnt,
 ) (group-at t) group.Post group-Inv-loop group-μ-loop
 group-add-members t c =
-    let s = c .before .before .before .before .before .before .before .before .before .before .before .before .before .before .before .before .before .before .before .before in
-    let l = c .before .before .before .before .before .before .before .before .before .before .before .before .before .loop in
+    let s =
+    c .before .before .before .before .before .before .before .before .before .before .before .before .before .before .before .before .before .before .before .before
+    in
+    let l =
+    c .before .before .before .before .before .before .before .before .before .before .before .before .before .loop in
     let q = c .before .before .before .before .before .before .before .before .before .particle in
     let p = phrase-is Wants _ (l .i) (s .args .deep + 1) (l .so-far) (l .words) (l .starts) (l .lengths)
     (q .last .1 .0) (q .last .1 .1 .0) (q .last .1 .1 .1 .0) (q .ensures) (c .before .p2 .given .1) in
@@ -236,8 +250,11 @@ group-behind-member-requires : (t : ℕ) → group-lts.Need-behind-member-requir
   close-reads.Learnt,
 ) (group-at t) group.Post group-Inv-loop group-μ-loop
 group-behind-member-requires t c κs =
-    let s = c .before .before .before .before .before .before .before .before .before .before .before .before .before .before .before .before .before .before .before .before in
-    let l = c .before .before .before .before .before .before .before .before .before .before .before .before .before .loop in
+    let s =
+    c .before .before .before .before .before .before .before .before .before .before .before .before .before .before .before .before .before .before .before .before
+    in
+    let l =
+    c .before .before .before .before .before .before .before .before .before .before .before .before .before .loop in
     let q = c .before .before .before .before .before .before .before .before .before .particle in
     let p = phrase-is Wants _ (l .i) (s .args .deep + 1) (l .so-far) (l .words) (l .starts) (l .lengths)
     (q .last .1 .0) (q .last .1 .1 .0) (q .last .1 .1 .1 .0) (q .ensures) (c .before .p2 .given .1) in
@@ -261,7 +278,10 @@ group-same-length-4 : (t : ℕ) → group-lts.Need-same-length-4 (
   close-reads.Asked,
   close-reads.Learnt,
 ) (group-at t) group.Post group-Inv-loop group-μ-loop
-group-same-length-4 t c = c .before .before .before .before .before .before .before .before .before .before .before .before .before .particle .kept .1 .0 ∙ c .before .before .before .before .before .before .before .before .before .before .before .before .before .before .before .before .before .loop .inv .1
+group-same-length-4 t c =
+    c .before .before .before .before .before .before .before .before .before .before .before .before .before .particle .kept .1 .0
+    ∙
+    c .before .before .before .before .before .before .before .before .before .before .before .before .before .before .before .before .before .loop .inv .1
 
 group-same-length-5 : (t : ℕ) → group-lts.Need-same-length-5 (
   particle-below t,
@@ -271,7 +291,10 @@ group-same-length-5 : (t : ℕ) → group-lts.Need-same-length-5 (
   close-reads.Asked,
   close-reads.Learnt,
 ) (group-at t) group.Post group-Inv-loop group-μ-loop
-group-same-length-5 t c = c .before .before .before .before .before .before .before .before .before .before .before .before .before .particle .kept .1 .1 .0 ∙ c .before .before .before .before .before .before .before .before .before .before .before .before .before .before .before .before .before .loop .inv .2
+group-same-length-5 t c =
+    c .before .before .before .before .before .before .before .before .before .before .before .before .before .particle .kept .1 .1 .0
+    ∙
+    c .before .before .before .before .before .before .before .before .before .before .before .before .before .before .before .before .before .loop .inv .2
 
 group-same-length-6 : (t : ℕ) → group-lts.Need-same-length-6 (
   particle-below t,
@@ -281,7 +304,10 @@ group-same-length-6 : (t : ℕ) → group-lts.Need-same-length-6 (
   close-reads.Asked,
   close-reads.Learnt,
 ) (group-at t) group.Post group-Inv-loop group-μ-loop
-group-same-length-6 t c = c .before .before .before .before .before .before .before .before .before .before .before .before .before .particle .kept .1 .1 .1 .0 ∙ c .before .before .before .before .before .before .before .before .before .before .before .before .before .before .before .before .before .loop .inv .3
+group-same-length-6 t c =
+    c .before .before .before .before .before .before .before .before .before .before .before .before .before .particle .kept .1 .1 .1 .0
+    ∙
+    c .before .before .before .before .before .before .before .before .before .before .before .before .before .before .before .before .before .loop .inv .3
 
 group-returns-4 : (t : ℕ) → group-lts.Need-returns-4 (
   particle-below t,
@@ -292,9 +318,15 @@ group-returns-4 : (t : ℕ) → group-lts.Need-returns-4 (
   close-reads.Learnt,
 ) (group-at t) group.Post group-Inv-loop group-μ-loop
 group-returns-4 t c =
-    let s = c .before .before .before .before .before .before .before .before .before .before .before .before .before .before .before .before .before .before .before .before .before .before .before .before in
-    let l = c .before .before .before .before .before .before .before .before .before .before .before .before .before .before .before .before .before .loop in
-    let q = c .before .before .before .before .before .before .before .before .before .before .before .before .before .particle in
+    let s =
+    c .before .before .before .before .before .before .before .before .before .before .before .before .before .before .before .before .before .before .before .before .before .before .before .before
+    in
+    let l =
+    c .before .before .before .before .before .before .before .before .before .before .before .before .before .before .before .before .before .loop
+    in
+    let q =
+    c .before .before .before .before .before .before .before .before .before .before .before .before .before .particle
+    in
     let p = phrase-is Wants _ (l .i) (s .args .deep + 1) (l .so-far) (l .words) (l .starts) (l .lengths)
     (q .last .1 .0) (q .last .1 .1 .0) (q .last .1 .1 .1 .0) (q .ensures)
     (c .before .before .before .before .before .p2 .given .1) in
@@ -320,9 +352,15 @@ group-close-requires : (t : ℕ) → group-lts.Need-close-requires (
   close-reads.Learnt,
 ) (group-at t) group.Post group-Inv-loop group-μ-loop
 group-close-requires t c κs =
-    let s = c .before .before .before .before .before .before .before .before .before .before .before .before .before .before .before .before .before .before .before .before .before .before .before .before .before in
-    let l = c .before .before .before .before .before .before .before .before .before .before .before .before .before .before .before .before .before .before .loop in
-    let q = c .before .before .before .before .before .before .before .before .before .before .before .before .before .before .particle in
+    let s =
+    c .before .before .before .before .before .before .before .before .before .before .before .before .before .before .before .before .before .before .before .before .before .before .before .before .before
+    in
+    let l =
+    c .before .before .before .before .before .before .before .before .before .before .before .before .before .before .before .before .before .before .loop
+    in
+    let q =
+    c .before .before .before .before .before .before .before .before .before .before .before .before .before .before .particle
+    in
     let p = phrase-is Wants _ (l .i) (s .args .deep + 1) (l .so-far) (l .words) (l .starts) (l .lengths)
     (q .last .1 .0) (q .last .1 .1 .0) (q .last .1 .1 .1 .0) (q .ensures)
     (c .before .before .before .before .before .before .p2 .given .1) in
@@ -330,7 +368,9 @@ group-close-requires t c κs =
     (c .before .before .x2 .given .1) in
     let f = few-members (l .inv .0) p in
     let n = s .pre .1 .1 .1 .nodes in
-    let m = c .before .before .before .before .before .before .before .before .before .before .before .before .before .before .before .before .before .before .before .if2 .left in
+    let m =
+    c .before .before .before .before .before .before .before .before .before .before .before .before .before .before .before .before .before .before .before .if2 .left
+    in
     let w = p .2 .ready .words in
     (x .1, (omega arith, omega arith))
 
@@ -343,7 +383,10 @@ group-same-length-7 : (t : ℕ) → group-lts.Need-same-length-7 (
   close-reads.Learnt,
 ) (group-at t) group.Post group-Inv-loop group-μ-loop
 group-same-length-7 t c = c .before .before .close .kept .1 .0
-    ∙ c .before .before .before .before .before .before .before .before .before .before .before .before .before .before .before .before .before .particle .kept .1 .0 ∙ c .before .before .before .before .before .before .before .before .before .before .before .before .before .before .before .before .before .before .before .before .before .loop .inv .1
+    ∙
+    c .before .before .before .before .before .before .before .before .before .before .before .before .before .before .before .before .before .particle .kept .1 .0
+    ∙
+    c .before .before .before .before .before .before .before .before .before .before .before .before .before .before .before .before .before .before .before .before .before .loop .inv .1
 
 group-same-length-8 : (t : ℕ) → group-lts.Need-same-length-8 (
   particle-below t,
@@ -353,7 +396,10 @@ group-same-length-8 : (t : ℕ) → group-lts.Need-same-length-8 (
   close-reads.Asked,
   close-reads.Learnt,
 ) (group-at t) group.Post group-Inv-loop group-μ-loop
-group-same-length-8 t c = c .before .before .before .before .before .before .before .before .before .before .before .before .before .before .before .before .before .particle .kept .1 .1 .0 ∙ c .before .before .before .before .before .before .before .before .before .before .before .before .before .before .before .before .before .before .before .before .before .loop .inv .2
+group-same-length-8 t c =
+    c .before .before .before .before .before .before .before .before .before .before .before .before .before .before .before .before .before .particle .kept .1 .1 .0
+    ∙
+    c .before .before .before .before .before .before .before .before .before .before .before .before .before .before .before .before .before .before .before .before .before .loop .inv .2
 
 group-same-length-9 : (t : ℕ) → group-lts.Need-same-length-9 (
   particle-below t,
@@ -363,7 +409,10 @@ group-same-length-9 : (t : ℕ) → group-lts.Need-same-length-9 (
   close-reads.Asked,
   close-reads.Learnt,
 ) (group-at t) group.Post group-Inv-loop group-μ-loop
-group-same-length-9 t c = c .before .before .before .before .before .before .before .before .before .before .before .before .before .before .before .before .before .particle .kept .1 .1 .1 .0 ∙ c .before .before .before .before .before .before .before .before .before .before .before .before .before .before .before .before .before .before .before .before .before .loop .inv .3
+group-same-length-9 t c =
+    c .before .before .before .before .before .before .before .before .before .before .before .before .before .before .before .before .before .particle .kept .1 .1 .1 .0
+    ∙
+    c .before .before .before .before .before .before .before .before .before .before .before .before .before .before .before .before .before .before .before .before .before .loop .inv .3
 
 group-returns-5 : (t : ℕ) → group-lts.Need-returns-5 (
   particle-below t,
@@ -374,9 +423,15 @@ group-returns-5 : (t : ℕ) → group-lts.Need-returns-5 (
   close-reads.Learnt,
 ) (group-at t) group.Post group-Inv-loop group-μ-loop
 group-returns-5 t c =
-    let s = c .before .before .before .before .before .before .before .before .before .before .before .before .before .before .before .before .before .before .before .before .before .before .before .before .before .before .before .before in
-    let l = c .before .before .before .before .before .before .before .before .before .before .before .before .before .before .before .before .before .before .before .before .before .loop in
-    let q = c .before .before .before .before .before .before .before .before .before .before .before .before .before .before .before .before .before .particle in
+    let s =
+    c .before .before .before .before .before .before .before .before .before .before .before .before .before .before .before .before .before .before .before .before .before .before .before .before .before .before .before .before
+    in
+    let l =
+    c .before .before .before .before .before .before .before .before .before .before .before .before .before .before .before .before .before .before .before .before .before .loop
+    in
+    let q =
+    c .before .before .before .before .before .before .before .before .before .before .before .before .before .before .before .before .before .particle
+    in
     let p = phrase-is Wants _ (l .i) (s .args .deep + 1) (l .so-far) (l .words) (l .starts) (l .lengths)
     (q .last .1 .0) (q .last .1 .1 .0) (q .last .1 .1 .1 .0) (q .ensures)
     (c .before .before .before .before .before .before .before .before .before .p2 .given .1) in
@@ -403,9 +458,15 @@ group-loop-less : (t : ℕ) → group-lts.Need-loop-less (
   close-reads.Learnt,
 ) (group-at t) group.Post group-Inv-loop group-μ-loop
 group-loop-less t c =
-    let s = c .before .before .before .before .before .before .before .before .before .before .before .before .before .before .before .before .before .before .before .before .before .before .before .before in
-    let l = c .before .before .before .before .before .before .before .before .before .before .before .before .before .before .before .before .before .loop in
-    let q = c .before .before .before .before .before .before .before .before .before .before .before .before .before .particle in
+    let s =
+    c .before .before .before .before .before .before .before .before .before .before .before .before .before .before .before .before .before .before .before .before .before .before .before .before
+    in
+    let l =
+    c .before .before .before .before .before .before .before .before .before .before .before .before .before .before .before .before .before .loop
+    in
+    let q =
+    c .before .before .before .before .before .before .before .before .before .before .before .before .before .particle
+    in
     let p = phrase-is Wants _ (l .i) (s .args .deep + 1) (l .so-far) (l .words) (l .starts) (l .lengths)
     (q .last .1 .0) (q .last .1 .1 .0) (q .last .1 .1 .1 .0) (q .ensures)
     (c .before .before .before .before .before .p2 .given .1) in
@@ -425,9 +486,15 @@ group-loop-again : (t : ℕ) → group-lts.Need-loop-again (
   close-reads.Learnt,
 ) (group-at t) group.Post group-Inv-loop group-μ-loop
 group-loop-again t c =
-    let s = c .before .before .before .before .before .before .before .before .before .before .before .before .before .before .before .before .before .before .before .before .before .before .before .before in
-    let l = c .before .before .before .before .before .before .before .before .before .before .before .before .before .before .before .before .before .loop in
-    let q = c .before .before .before .before .before .before .before .before .before .before .before .before .before .particle in
+    let s =
+    c .before .before .before .before .before .before .before .before .before .before .before .before .before .before .before .before .before .before .before .before .before .before .before .before
+    in
+    let l =
+    c .before .before .before .before .before .before .before .before .before .before .before .before .before .before .before .before .before .loop
+    in
+    let q =
+    c .before .before .before .before .before .before .before .before .before .before .before .before .before .particle
+    in
     let p = phrase-is Wants _ (l .i) (s .args .deep + 1) (l .so-far) (l .words) (l .starts) (l .lengths)
     (q .last .1 .0) (q .last .1 .1 .0) (q .last .1 .1 .1 .0) (q .ensures)
     (c .before .before .before .before .before .p2 .given .1) in (
@@ -571,10 +638,13 @@ particle-returns-2 : (t : ℕ) → particle-lts.Need-returns-2 (
   wrong-reads.Learnt,
 ) (particle-at t) particle.Post
 particle-returns-2 t c =
-    let s = c .before .before .before .before .before .before .before .before .before .before .before .before .before .before .before .before .before .before .before in
+    let s =
+    c .before .before .before .before .before .before .before .before .before .before .before .before .before .before .before .before .before .before .before
+    in
     let r = c .before .before .before .before .before .before .named in
     particle-name _ _ _ _ _
-    (c .before .before .before .before .before .before .before .before .before .before .before .before .before .before .skip .ensures .0) _ _ _ (r .result) _ _ _ (r .ensures (s .args .deep))
+    (c .before .before .before .before .before .before .before .before .before .before .before .before .before .before .skip .ensures .0)
+    _ _ _ (r .result) _ _ _ (r .ensures (s .args .deep))
 
 particle-group-requires : (t : ℕ) → particle-lts.Need-group-requires (
   skip-reads.Asked,
@@ -648,10 +718,13 @@ particle-returns-3 : (t : ℕ) → particle-lts.Need-returns-3 (
   wrong-reads.Learnt,
 ) (particle-at t) particle.Post
 particle-returns-3 t c =
-    let s = c .before .before .before .before .before .before .before .before .before .before .before .before .before .before .before .before .before .before .before .before in
+    let s =
+    c .before .before .before .before .before .before .before .before .before .before .before .before .before .before .before .before .before .before .before .before
+    in
     let r = c .before .before .before .before .before .before .group in
     particle-group _ _ _ (s .args .deep) (s .args .counts)
-    (c .before .before .before .before .before .before .before .before .before .before .before .before .before .before .before .skip .ensures .0) _ _ _ (r .result) _ _ _ (r .ensures)
+    (c .before .before .before .before .before .before .before .before .before .before .before .before .before .before .before .skip .ensures .0)
+    _ _ _ (r .result) _ _ _ (r .ensures)
 
 particle-wrong-requires : (t : ℕ) → particle-lts.Need-wrong-requires (
   skip-reads.Asked,

@@ -43,22 +43,29 @@ same-length-3 c = omega arith
 
 returns-3 : tie.Need-returns-3
 returns-3 c =
-    let s = c .before .before .before .before .before .before .before .before .before .before .before .before .before .before .before .before .before .before .before .before .before in
-    let q = c .before .before .before .before .before .before .before .before .before .group in
-    let p = phrase-is Opens _
-    (c .before .before .before .before .before .before .before .before .before .before .before .before .before .before .before .before .skip .result) 0 none (s .args .words .now) (s .args .starts .now) (s .args .lengths .now) (q .last .1 .0) (q .last .1 .1 .0) (q .last .1 .1 .1 .0) (q .ensures) (c .before .g .given .1) in
-    no-group _ _
-    (c .before .before .before .before .before .before .before .before .before .before .before .before .before .before .before .before .skip .ensures .0) p
+    let c9 = c .before .before .before .before .before .before .before .before .before in
+    let c16 = c9 .before .before .before .before .before .before .before in
+    let c20 = c16 .before .before .before .before in
+    let s = c20 .before in
+    let q = c9 .group in
+    let p = phrase-is Opens _ (c16 .skip .result) 0 none (s .args .words .now) (s .args .starts .now)
+    (s .args .lengths .now) (q .last .1 .0) (q .last .1 .1 .0) (q .last .1 .1 .1 .0) (q .ensures)
+    (c .before .g .given .1) in
+    no-group _ _ (c16 .skip .ensures .0) p
 
 enum-known-g-2 : tie.Need-enum-known-g-2
 enum-known-g-2 c = omega arith
 
 skip-requires-2 : tie.Need-skip-requires-2
 skip-requires-2 c κs =
-    let s = c .before .before .before .before .before .before .before .before .before .before .before .before .before .before .before .before .before .before .before .before .before in
-    let q = c .before .before .before .before .before .before .before .before .before .group in
-    let p = phrase-is Opens _
-    (c .before .before .before .before .before .before .before .before .before .before .before .before .before .before .before .before .skip .result) 0 none (s .args .words .now) (s .args .starts .now) (s .args .lengths .now) (q .last .1 .0) (q .last .1 .1 .0) (q .last .1 .1 .1 .0) (q .ensures) (c .before .g2 .given .1) in
+    let c9 = c .before .before .before .before .before .before .before .before .before in
+    let c16 = c9 .before .before .before .before .before .before .before in
+    let c20 = c16 .before .before .before .before in
+    let s = c20 .before in
+    let q = c9 .group in
+    let p = phrase-is Opens _ (c16 .skip .result) 0 none (s .args .words .now) (s .args .starts .now)
+    (s .args .lengths .now) (q .last .1 .0) (q .last .1 .1 .0) (q .last .1 .1 .1 .0) (q .ensures)
+    (c .before .g2 .given .1) in
     p .1 .to
 
 shared-slice-read-wrong : tie.Need-shared-slice-read-wrong
@@ -78,13 +85,17 @@ same-length-6 c = omega arith
 
 returns-4 : tie.Need-returns-4
 returns-4 c =
-    let s = c .before .before .before .before .before .before .before .before .before .before .before .before .before .before .before .before .before .before .before .before .before .before .before .before .before in
-    let q = c .before .before .before .before .before .before .before .before .before .before .before .before .before .group in
-    let p = phrase-is Opens _
-    (c .before .before .before .before .before .before .before .before .before .before .before .before .before .before .before .before .before .before .before .before .skip .result) 0 none (s .args .words .now) (s .args .starts .now) (s .args .lengths .now) (q .last .1 .0) (q .last .1 .1 .0) (q .last .1 .1 .1 .0) (q .ensures) (c .before .before .before .before .before .g2 .given .1) in
-    subst (Refused (s .args .text .now)) (sym (c .wrong2 .ensures))
-    (more-behind _ _
-    (c .before .before .before .before .before .before .before .before .before .before .before .before .before .before .before .before .before .before .before .before .skip .ensures .0) (p .1) _ (c .before .before .before .skip2 .ensures .0) (c .before .before .if3 .taken) refl)
+    let c5 = c .before .before .before .before .before in
+    let c13 = c5 .before .before .before .before .before .before .before .before in
+    let c20 = c13 .before .before .before .before .before .before .before in
+    let c24 = c20 .before .before .before .before in
+    let s = c24 .before in
+    let q = c13 .group in
+    let p = phrase-is Opens _ (c20 .skip .result) 0 none (s .args .words .now) (s .args .starts .now)
+    (s .args .lengths .now) (q .last .1 .0) (q .last .1 .1 .0) (q .last .1 .1 .1 .0) (q .ensures) (c5 .g2 .given .1)
+    in
+    subst (Refused (s .args .text .now)) (sym (c .wrong2 .ensures)) (more-behind _ _ (c20 .skip .ensures .0) (p .1) _
+    (c .before .before .before .skip2 .ensures .0) (c .before .before .if3 .taken) refl)
 
 same-length-7 : tie.Need-same-length-7
 same-length-7 c = omega arith
@@ -97,14 +108,17 @@ same-length-9 c = omega arith
 
 returns-5 : tie.Need-returns-5
 returns-5 c =
-    let s = c .before .before .before .before .before .before .before .before .before .before .before .before .before .before .before .before .before .before .before .before .before .before .before in
-    let q = c .before .before .before .before .before .before .before .before .before .before .before .group in
-    let p = phrase-is Opens _
-    (c .before .before .before .before .before .before .before .before .before .before .before .before .before .before .before .before .before .before .skip .result) 0 none (s .args .words .now) (s .args .starts .now) (s .args .lengths .now) (q .last .1 .0) (q .last .1 .1 .0) (q .last .1 .1 .1 .0) (q .ensures) (c .before .before .before .g2 .given .1) in
+    let c11 = c .before .before .before .before .before .before .before .before .before .before .before in
+    let c18 = c11 .before .before .before .before .before .before .before in
+    let c22 = c18 .before .before .before .before in
+    let s = c22 .before in
+    let q = c11 .group in
+    let p = phrase-is Opens _ (c18 .skip .result) 0 none (s .args .words .now) (s .args .starts .now)
+    (s .args .lengths .now) (q .last .1 .0) (q .last .1 .1 .0) (q .last .1 .1 .1 .0) (q .ensures)
+    (c .before .before .before .g2 .given .1) in
     let f = filled (p .2) (s .pre .1 .0) in (
       p .0,
-      whole-text _ _
-          (c .before .before .before .before .before .before .before .before .before .before .before .before .before .before .before .before .before .before .skip .ensures .0) (p .1) _ (c .before .skip2 .ensures .0) (omega arith),
+      whole-text _ _ (c18 .skip .ensures .0) (p .1) _ (c .before .skip2 .ensures .0) (omega arith),
       f .0,
       f .1,
     )

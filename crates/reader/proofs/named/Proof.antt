@@ -46,13 +46,14 @@ mark-width-requires c κs = omega arith
 
 add-t24 : tie.Need-add-t24
 add-t24 c =
-    let s = c .before .before .before .before .before .before .before .before .before .before .before .before .before .before .before .before .before .before .before .before in
+    let c11 = c .before .before .before .before .before .before .before .before .before .before .before in
+    let c13 = c11 .before .before in
+    let c19 = c13 .before .before .before .before .before .before in
+    let s = c19 .before in
     let r = s .pre .1 .short in
     let e = run-room (s .args .text .now) (s .args .at) (omega arith) in
-    let w = mark-room (s .args .text .now)
-    (c .before .before .before .before .before .before .before .before .before .before .before .before .before .run-end .result) (omega arith) in
-    let m = ap width
-    (c .before .before .before .before .before .before .before .before .before .before .before .mark-at .ensures) in
+    let w = mark-room (s .args .text .now) (c13 .run-end .result) (omega arith) in
+    let m = ap width (c11 .mark-at .ensures) in
     omega (arith, c .mark-width .ensures)
 
 same-length : tie.Need-same-length
@@ -66,12 +67,19 @@ same-length-3 c = omega arith
 
 returns-4 : tie.Need-returns-4
 returns-4 c =
-    let s = c .before .before .before .before .before .before .before .before .before .before .before .before .before .before .before .before .before .before .before .before in
-    let g = c .before .before .before .before .before .before .before .enter .ensures in
-    λ d. (
+    let c7 = c .before .before .before .before .before .before .before in
+    let c11 = c7 .before .before .before .before in
+    let c12 = c11 .before in
+    let c13 = c12 .before in
+    let c14 = c13 .before in
+    let c15 = c14 .before in
+    let c19 = c15 .before .before .before .before in
+    let s = c19 .before in
+    let g = c7 .enter .ensures in λ d. (
       _,
-      name-part _ _ _ _ (s .pre .0 .0) (s .pre .0 .1)
-          (c .before .before .before .before .before .before .before .before .before .before .before .before .before .before .before .if1 .left) (c .before .before .before .before .before .before .before .before .before .before .before .before .before .before .if2 .left) _ (c .before .before .before .before .before .before .before .before .before .before .before .before .before .run-end .ensures) (omega (arith, c .before .before .before .before .before .before .before .before .before .before .before .before .if3 .left)) _ (c .before .before .before .before .before .before .before .before .before .before .before .mark-at .ensures) _ _ (g .slots) (g .nodes) (c .mark-width .ensures),
+      name-part _ _ _ _ (s .pre .0 .0) (s .pre .0 .1) (c15 .if1 .left)
+          (c14 .if2 .left) _ (c13 .run-end .ensures) (omega (arith, c12 .if3 .left)) _ (c11 .mark-at .ensures) _ _
+          (g .slots) (g .nodes) (c .mark-width .ensures),
       g,
     )
 

@@ -30,7 +30,10 @@ slice-aggregate-put-model c = search needs
 
 put-model-requires : tie.Need-put-model-requires
 put-model-requires c κs =
-    read-within (c .before .before .before .before .before .before .before .before .before .args .text .now) _ (c .before .before .before .before .before .read .result) (c .before .before .before .before .before .read .last .1 .0) _ (c .before .before .before .before .before .read .ensures) (c .before .before .read3 .given .1)
+    let c5 = c .before .before .before .before .before in
+    let c9 = c5 .before .before .before .before in
+    read-within (c9 .args .text .now) _ (c5 .read .result) (c5 .read .last .1 .0) _ (c5 .read .ensures)
+    (c .before .before .read3 .given .1)
 
 returns : tie.Need-returns
 returns c = search needs

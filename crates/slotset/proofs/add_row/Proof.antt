@@ -1,4 +1,5 @@
--- `add_row` meets its contract. The loop's invariant: the row's bytes below `i` are joined, no other changed. Assumes nothing.
+-- `add_row` meets its contract. The loop's invariant: the row's bytes below `i` are joined, no other changed. Assumes
+-- nothing.
 use mathlib.Core.Path.{_≡_, refl, _∙_, ap}
 use Prim.Native.Nat.{ℕ, _+_, _-_, _*_, _<_, _≤_}
 use native.Mathlib.Omega.{arith}
@@ -48,25 +49,26 @@ loop-less : tie.Need-loop-less Inv-loop μ-loop
 loop-less c = search needs
 
 loop-again : tie.Need-loop-again Inv-loop μ-loop
-loop-again c = let l = c .before .before .loop in
+loop-again c =
+    let l = c .before .before .loop in
     let a = c .before .before .before .before .before .args in
     let s = a .square .now in
     let m = a .s .marks in
     let from : ℕ = setBytes * (a .p .0 - 1) in
     let v = bitOr (getD (l .square) (from + l .i) 0) (getD m (l .i) 0) in
     let b = set (l .square) (from + l .i) v in
-    let at : getD (l .square) (from + l .i) 0 ≡ getD s (from + l .i) 0 =
-    l .inv .1 .1 .1 (from + l .i) (λ g h. omega arith) in
+    let at : getD (l .square) (from + l .i) 0 ≡ getD s (from + l .i) 0 = l .inv .1 .1 .1 (from + l .i) (λ g h. omega
+    arith) in
     let here : getD b (from + l .i) 0 ≡ v = getD-set-same (l .square) (from + l .i) v 0 (omega arith) in (
       search needs,
       (
         simp length-set (omega arith),
         (
-          below-more (λ k. getD b (from + k) 0 ≡ bitOr (getD s (from + k) 0) (getD m k 0)) (l .i)
-              (λ k h. rw (getD-set-other (l .square) (from + l .i) (from + k) v 0 (λ e. omega arith)) (l .inv .1 .1 .0 k h))
-              (here ∙ ap (λ z. bitOr z (getD m (l .i) 0)) at),
-          λ k h. getD-set-other (l .square) (from + l .i) k v 0 (λ e. h (omega arith) (omega arith))
-              ∙ l .inv .1 .1 .1 k (λ g d. h g (omega arith)),
+          below-more (λ k. getD b (from + k) 0 ≡ bitOr (getD s (from + k)
+              0) (getD m k 0)) (l .i) (λ k h. rw (getD-set-other (l .square) (from + l .i) (from + k) v 0 (λ e. omega arith))
+              (l .inv .1 .1 .0 k h)) (here ∙ ap (λ z. bitOr z (getD m (l .i) 0)) at),
+          λ k h. getD-set-other (l .square) (from +
+              l .i) k v 0 (λ e. h (omega arith) (omega arith)) ∙ l .inv .1 .1 .1 k (λ g d. h g (omega arith)),
         ),
       ),
     )

@@ -70,7 +70,8 @@ abbrev μ-loop : lts.MeasureT-loop
 module _ (t : ℕ) where
   -- the node is one of the draft's
   in-draft :
-      (c : lts.Start (claims t) (at-measure t) reads.Post Inv-loop μ-loop) → c .args .node < length (c .args .words .now)
+      (c : lts.Start (claims t) (at-measure t) reads.Post Inv-loop μ-loop) → c .args .node < length
+      (c .args .words .now)
   in-draft c =
       let u = c .pre .1 .1 .0 in
       omega (arith, within (c .args .words .now) (c .args .node) u (c .pre .1 .1 .1 .sits), some-node u)
@@ -161,7 +162,8 @@ module _ (t : ℕ) where
       let some = c .before .before .before .before .before .before .before .before .before .loop-test .taken in
       let member = c .before .before .before .before .before .before .survey-node in (
         search needs,
-        λ u s. left-step _ _ _ _ _ _ _ _ _ (l .inv .1 u s) some _ _ (member .ensures) _ _ (c .before .before .joined .ensures),
+        λ u s. left-step _ _ _ _ _ _ _ _ _ (l .inv .1 u s) some _ _ (member .ensures) _ _
+            (c .before .before .joined .ensures),
       )
 
   marked-requires-2 : lts.Need-marked-requires-2 (claims t) (at-measure t) reads.Post Inv-loop μ-loop

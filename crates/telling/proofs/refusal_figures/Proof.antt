@@ -25,7 +25,11 @@ four-requires-2 : tie.Need-four-requires-2
 four-requires-2 c κs = search needs
 
 returns-2 : tie.Need-returns-2
-returns-2 c = c .four2 .ensures ∙ plain-figures (c .before .before .before .before .args .f) (c .before .before .number .result) (c .before .place .result) (c .before .before .before .match .keys2) (c .before .before .number .ensures) (c .before .place .ensures)
+returns-2 c =
+    let c2 = c .before .before in
+    let c4 = c2 .before .before in
+    c .four2 .ensures ∙ plain-figures (c4 .args .f) (c2 .number .result) (c .before .place .result)
+    (c .before .before .before .match .keys2) (c2 .number .ensures) (c .before .place .ensures)
 
 pub refusal-figures-spec : {M : Type 1} → statement M
 refusal-figures-spec =

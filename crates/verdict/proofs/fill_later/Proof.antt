@@ -1,4 +1,5 @@
--- `verdict::fill_later` meets its contract: the slots above x are linked, and of each name the first above x was seen. Assumes nothing.
+-- `verdict::fill_later` meets its contract: the slots above x are linked, and of each name the first above x was
+-- seen. Assumes nothing.
 use borrow.Author.Needs.{needs}
 use mathlib.Core.Path.{_≡_}
 use Prim.Native.Nat.{_+_, _-_, _≤_, _<_}
@@ -10,7 +11,8 @@ use Rattle.verdict.proofs.fill_later.Statement.{statement}
 use Rattle.verdict.proofs.fill_later.Tie as tie
 
 abbrev Inv-loop : tie.InvT-loop
-Inv-loop names slots later₀ seen₀ x₀ later seen x = (x ≤ slots) × ((length later ≡ slotLimit) × ((length seen ≡ nameCountLimit) × (LinkedAbove names later slots x × Seen names seen slots x)))
+Inv-loop names slots later₀ seen₀ x₀ later seen x = (x ≤ slots) × ((length later ≡ slotLimit) × ((length seen ≡
+    nameCountLimit) × (LinkedAbove names later slots x × Seen names seen slots x)))
 
 abbrev μ-loop : tie.MeasureT-loop
 μ-loop names slots later₀ seen₀ x₀ later seen x = x
@@ -22,7 +24,20 @@ cast-seen : tie.Need-cast-seen Inv-loop μ-loop
 cast-seen c = search needs
 
 loop-holds : tie.Need-loop-holds Inv-loop μ-loop
-loop-holds c = (search needs, (search needs, (search needs, ((λ z h i. absurd (omega arith)), λ m h. none-seen _ _ m _ (getD-replicate nameCountLimit m (c .before .before .args .slots + 1) 0 h)))))
+loop-holds c = (
+  search needs,
+  (
+    search needs,
+    (
+      search needs,
+      (
+        (λ z h i. absurd (omega arith)),
+        λ m h. none-seen _ _ m _
+            (getD-replicate nameCountLimit m (c .before .before .args .slots + 1) 0 h),
+      ),
+    ),
+  ),
+)
 
 sub-k : tie.Need-sub-k Inv-loop μ-loop
 sub-k c = search needs
@@ -31,10 +46,14 @@ number-at-requires : tie.Need-number-at-requires Inv-loop μ-loop
 number-at-requires c κs = search needs
 
 mul-later : tie.Need-mul-later Inv-loop μ-loop
-mul-later c = omega (arith, c .number-at .ensures .is, c .before .before .before .before .before .pre .1 .1 .1 (c .before .before .loop .x - 1) (omega arith))
+mul-later c =
+    let c5 = c .before .before .before .before .before in
+    omega (arith, c .number-at .ensures .is, c5 .pre .1 .1 .1 (c .before .before .loop .x - 1) (omega arith))
 
 array-read-later : tie.Need-array-read-later Inv-loop μ-loop
-array-read-later c = omega (arith, c .number-at .ensures .is, c .before .before .before .before .before .pre .1 .1 .1 (c .before .before .loop .x - 1) (omega arith))
+array-read-later c =
+    let c5 = c .before .before .before .before .before in
+    omega (arith, c .number-at .ensures .is, c5 .pre .1 .1 .1 (c .before .before .loop .x - 1) (omega arith))
 
 mul-later-2 : tie.Need-mul-later-2 Inv-loop μ-loop
 mul-later-2 c = search needs
@@ -46,10 +65,14 @@ cast-seen-2 : tie.Need-cast-seen-2 Inv-loop μ-loop
 cast-seen-2 c = search needs
 
 mul-seen : tie.Need-mul-seen Inv-loop μ-loop
-mul-seen c = omega (arith, c .number-at .ensures .is, c .before .before .before .before .before .pre .1 .1 .1 (c .before .before .loop .x - 1) (omega arith))
+mul-seen c =
+    let c5 = c .before .before .before .before .before in
+    omega (arith, c .number-at .ensures .is, c5 .pre .1 .1 .1 (c .before .before .loop .x - 1) (omega arith))
 
 array-write-seen : tie.Need-array-write-seen Inv-loop μ-loop
-array-write-seen c = omega (arith, c .number-at .ensures .is, c .before .before .before .before .before .pre .1 .1 .1 (c .before .before .loop .x - 1) (omega arith))
+array-write-seen c =
+    let c5 = c .before .before .before .before .before in
+    omega (arith, c .number-at .ensures .is, c5 .pre .1 .1 .1 (c .before .before .loop .x - 1) (omega arith))
 
 sub-x : tie.Need-sub-x Inv-loop μ-loop
 sub-x c = search needs
@@ -58,7 +81,32 @@ loop-less : tie.Need-loop-less Inv-loop μ-loop
 loop-less c = search needs
 
 loop-again : tie.Need-loop-again Inv-loop μ-loop
-loop-again c = let b : c .number-at .result .0 < nameCountLimit = omega (arith, c .number-at .ensures .is, (c .before .before .before .before .before .pre .1 .1 .1 (c .before .before .loop .x - 1) (omega arith))) in (search needs, (simp length-set (omega arith), (simp length-set (omega arith), (link (c .before .before .before .before .before .args .names .now) (c .before .before .loop .later) (c .before .before .loop .seen) (c .before .before .before .before .before .args .slots) (c .before .before .loop .x) (c .number-at .result .0) (search needs) (search needs) (c .number-at .ensures .is) (c .before .before .loop .inv .1 .1 .1 .0) (c .before .before .loop .inv .1 .1 .1 .1) (search needs) b, see (c .before .before .before .before .before .args .names .now) (c .before .before .loop .later) (c .before .before .loop .seen) (c .before .before .before .before .before .args .slots) (c .before .before .loop .x) (c .number-at .result .0) (search needs) (search needs) (c .number-at .ensures .is) (c .before .before .loop .inv .1 .1 .1 .1) (omega (arith, b))))))
+loop-again c =
+    let b : c .number-at .result .0 < nameCountLimit = omega (
+      arith,
+      c .number-at .ensures .is,
+      (c .before .before .before .before .before .pre .1 .1 .1 (c .before .before .loop .x - 1) (omega arith)),
+    ) in (
+      search needs,
+      (
+        simp length-set (omega arith),
+        (
+          simp length-set (omega arith),
+          (
+            link
+                (c .before .before .before .before .before .args .names .now) (c .before .before .loop .later)
+                (c .before .before .loop .seen) (c .before .before .before .before .before .args .slots)
+                (c .before .before .loop .x) (c .number-at .result .0) (search needs) (search needs) (c .number-at .ensures .is)
+                (c .before .before .loop .inv .1 .1 .1 .0) (c .before .before .loop .inv .1 .1 .1 .1) (search needs) b,
+            see
+                (c .before .before .before .before .before .args .names .now) (c .before .before .loop .later)
+                (c .before .before .loop .seen) (c .before .before .before .before .before .args .slots)
+                (c .before .before .loop .x) (c .number-at .result .0) (search needs) (search needs) (c .number-at .ensures .is)
+                (c .before .before .loop .inv .1 .1 .1 .1) (omega (arith, b)),
+          ),
+        ),
+      ),
+    )
 
 same-length : tie.Need-same-length Inv-loop μ-loop
 same-length c = search needs

@@ -1,4 +1,5 @@
--- `verdict::first_clash` meets its contract: the invariants say that there is no clash below p, then x, then y. Assumes nothing.
+-- `verdict::first_clash` meets its contract: the invariants say that there is no clash below p, then x, then y.
+-- Assumes nothing.
 use borrow.Author.Needs.{needs}
 use borrow.Author.Tests.{not-true, not-false}
 use mathlib.Core.Path.{_≡_, sym, _∙_}
@@ -13,19 +14,23 @@ use Rattle.verdict.proofs.first_clash.Statement.{statement}
 use Rattle.verdict.proofs.first_clash.Tie as tie
 
 abbrev Inv-loop2 : tie.InvT-loop2
-Inv-loop2 square start later slots answer₀ p x y₀ answer y = (x < y) × ((y ≤ slots + 1) × ((answer ≡ Deterministic) × ((k : Tree ℕ) (names : List ℕ) → Linked names later slots → Ready k (start .marks) square names slots → At k slots p x y)))
+Inv-loop2 square start later slots answer₀ p x y₀ answer y = (x < y) × ((y ≤ slots + 1) × ((answer ≡ Deterministic) ×
+    ((k : Tree ℕ) (names : List ℕ) → Linked names later slots → Ready k (start .marks) square names slots → At k slots
+    p x y)))
 
 abbrev μ-loop2 : tie.MeasureT-loop2
 μ-loop2 square start later slots answer₀ p x y₀ answer y = slots + 1 - y
 
 abbrev Inv-loop : tie.InvT-loop
-Inv-loop square start later slots answer₀ p x₀ answer x = (1 ≤ x) × ((x ≤ slots + 1) × ((answer ≡ Deterministic) × ((k : Tree ℕ) (names : List ℕ) → Linked names later slots → Ready k (start .marks) square names slots → FreeX k p x)))
+Inv-loop square start later slots answer₀ p x₀ answer x = (1 ≤ x) × ((x ≤ slots + 1) × ((answer ≡ Deterministic) × ((k
+    : Tree ℕ) (names : List ℕ) → Linked names later slots → Ready k (start .marks) square names slots → FreeX k p x)))
 
 abbrev μ-loop : tie.MeasureT-loop
 μ-loop square start later slots answer₀ p x₀ answer x = slots + 1 - x
 
 abbrev Inv-search : tie.InvT-search
-Inv-search square start later slots answer₀ p₀ answer p = (p ≤ slots + 1) × ((answer ≡ Deterministic) × ((k : Tree ℕ) (names : List ℕ) → Linked names later slots → Ready k (start .marks) square names slots → FreeP k p))
+Inv-search square start later slots answer₀ p₀ answer p = (p ≤ slots + 1) × ((answer ≡ Deterministic) × ((k : Tree ℕ)
+    (names : List ℕ) → Linked names later slots → Ready k (start .marks) square names slots → FreeP k p))
 
 abbrev μ-search : tie.MeasureT-search
 μ-search square start later slots answer₀ p₀ answer p = slots + 1 - p
@@ -34,7 +39,19 @@ search-holds : tie.Need-search-holds Inv-loop2 μ-loop2 Inv-loop μ-loop Inv-sea
 search-holds c = (search needs, (search needs, λ k ns l r q x y h c. omega arith))
 
 loop-holds : tie.Need-loop-holds Inv-loop2 μ-loop2 Inv-loop μ-loop Inv-search μ-search
-loop-holds c = (search needs, (search needs, (search needs, λ k ns l r. x-none k (c .before .before .before .before .args .start .marks) (c .before .before .before .before .args .square .now) ns (c .before .before .before .before .args .later .now) (c .before .before .before .before .args .slots) r l (c .before .search .p))))
+loop-holds c = (
+  search needs,
+  (
+    search needs,
+    (
+      search needs,
+      λ k ns l r. x-none k
+          (c .before .before .before .before .args .start .marks) (c .before .before .before .before .args .square .now) ns
+          (c .before .before .before .before .args .later .now) (c .before .before .before .before .args .slots) r l
+          (c .before .search .p),
+    ),
+  ),
+)
 
 sub-wide : tie.Need-sub-wide Inv-loop2 μ-loop2 Inv-loop μ-loop Inv-search μ-search
 sub-wide c = search needs
@@ -56,7 +73,29 @@ loop-less : tie.Need-loop-less Inv-loop2 μ-loop2 Inv-loop μ-loop Inv-search μ
 loop-less c = search needs
 
 loop-again : tie.Need-loop-again Inv-loop2 μ-loop2 Inv-loop μ-loop Inv-search μ-search
-loop-again c = (search needs, (search needs, (search needs, λ k ns l r. x-done k (c .before .before .before .before .before .before .before .before .before .args .start .marks) (c .before .before .before .before .before .before .before .before .before .args .square .now) ns (c .before .before .before .before .before .before .before .before .before .args .later .now) (c .before .before .before .before .before .before .before .before .before .args .slots) r l (c .before .before .before .before .before .before .search .p) (c .before .before .before .before .loop .x) (c .before .wide .result) (c .before .before .before .before .loop .inv .1 .1 .1 k ns l r) (c .if1 .taken) (y-start k (c .before .before .before .before .before .before .before .before .before .args .start .marks) (c .before .before .before .before .before .before .before .before .before .args .square .now) ns (c .before .before .before .before .before .before .before .before .before .args .later .now) (c .before .before .before .before .before .before .before .before .before .args .slots) r l (c .before .before .before .before .before .before .search .p) (c .before .before .before .before .loop .x) (c .before .wide .result) (c .before .before .before .before .loop .inv .0) (c .before .before .before .loop-test .taken) (c .before .wide .ensures)))))
+loop-again c = (
+  search needs,
+  (
+    search needs,
+    (
+      search needs,
+      λ k ns l r. x-done k
+          (c .before .before .before .before .before .before .before .before .before .args .start .marks)
+          (c .before .before .before .before .before .before .before .before .before .args .square .now) ns
+          (c .before .before .before .before .before .before .before .before .before .args .later .now)
+          (c .before .before .before .before .before .before .before .before .before .args .slots) r l
+          (c .before .before .before .before .before .before .search .p) (c .before .before .before .before .loop .x)
+          (c .before .wide .result) (c .before .before .before .before .loop .inv .1 .1 .1 k ns l r) (c .if1 .taken)
+          (y-start k (c .before .before .before .before .before .before .before .before .before .args .start .marks)
+          (c .before .before .before .before .before .before .before .before .before .args .square .now) ns
+          (c .before .before .before .before .before .before .before .before .before .args .later .now)
+          (c .before .before .before .before .before .before .before .before .before .args .slots) r l
+          (c .before .before .before .before .before .before .search .p) (c .before .before .before .before .loop .x)
+          (c .before .wide .result) (c .before .before .before .before .loop .inv .0)
+          (c .before .before .before .loop-test .taken) (c .before .wide .ensures)),
+    ),
+  ),
+)
 
 can-follow-requires :
     tie.Need-can-follow-requires Inv-loop2 μ-loop2 Inv-loop μ-loop Inv-search μ-search
@@ -69,10 +108,49 @@ loop-less-2 : tie.Need-loop-less-2 Inv-loop2 μ-loop2 Inv-loop μ-loop Inv-searc
 loop-less-2 c = search needs
 
 loop-again-2 : tie.Need-loop-again-2 Inv-loop2 μ-loop2 Inv-loop μ-loop Inv-search μ-search
-loop-again-2 c = (search needs, (search needs, (search needs, λ k ns l r. x-skip k (c .before .before .before .before .before .before .before .before .before .before .before .args .start .marks) (c .before .before .before .before .before .before .before .before .before .before .before .args .square .now) ns (c .before .before .before .before .before .before .before .before .before .before .before .args .later .now) (c .before .before .before .before .before .before .before .before .before .before .before .args .slots) r l (c .before .before .before .before .before .before .before .before .search .p) (c .before .before .before .before .before .before .loop .x) (c .before .before .before .before .before .before .loop .inv .1 .1 .1 k ns l r) (sym (c .before .can-follow .ensures) ∙ not-true _ (c .if2 .taken)))))
+loop-again-2 c = (
+  search needs,
+  (
+    search needs,
+    (
+      search needs,
+      λ k ns l r. x-skip k
+          (c .before .before .before .before .before .before .before .before .before .before .before .args .start .marks)
+          (c .before .before .before .before .before .before .before .before .before .before .before .args .square .now) ns
+          (c .before .before .before .before .before .before .before .before .before .before .before .args .later .now)
+          (c .before .before .before .before .before .before .before .before .before .before .before .args .slots) r l
+          (c .before .before .before .before .before .before .before .before .search .p)
+          (c .before .before .before .before .before .before .loop .x)
+          (c .before .before .before .before .before .before .loop .inv .1 .1 .1 k ns l r) (sym
+          (c .before .can-follow .ensures) ∙ not-true _ (c .if2 .taken)),
+    ),
+  ),
+)
 
 loop2-holds : tie.Need-loop2-holds Inv-loop2 μ-loop2 Inv-loop μ-loop Inv-search μ-search
-loop2-holds c = let e = c .before .before .before .wide .ensures in let g = c .before .before .before .before .before .before .before .before .before .before .before .pre .1 .1 .1 (c .before .before .before .before .before .before .loop .x) (c .before .before .before .before .before .before .loop .inv .0) (c .before .before .before .before .before .loop-test .taken) in (omega (arith, e, g .0), (omega (arith, e, g .1), (search needs, λ k ns l r. y-start k (c .before .before .before .before .before .before .before .before .before .before .before .args .start .marks) (c .before .before .before .before .before .before .before .before .before .before .before .args .square .now) ns (c .before .before .before .before .before .before .before .before .before .before .before .args .later .now) (c .before .before .before .before .before .before .before .before .before .before .before .args .slots) r l (c .before .before .before .before .before .before .before .before .search .p) (c .before .before .before .before .before .before .loop .x) (c .before .before .before .wide .result) (c .before .before .before .before .before .before .loop .inv .0) (c .before .before .before .before .before .loop-test .taken) e)))
+loop2-holds c =
+    let e = c .before .before .before .wide .ensures in
+    let g = c .before .before .before .before .before .before .before .before .before .before .before .pre .1 .1 .1
+    (c .before .before .before .before .before .before .loop .x)
+    (c .before .before .before .before .before .before .loop .inv .0)
+    (c .before .before .before .before .before .loop-test .taken) in (
+      omega (arith, e, g .0),
+      (
+        omega (arith, e, g .1),
+        (
+          search needs,
+          λ k ns l r. y-start k
+              (c .before .before .before .before .before .before .before .before .before .before .before .args .start .marks)
+              (c .before .before .before .before .before .before .before .before .before .before .before .args .square .now) ns
+              (c .before .before .before .before .before .before .before .before .before .before .before .args .later .now)
+              (c .before .before .before .before .before .before .before .before .before .before .before .args .slots) r l
+              (c .before .before .before .before .before .before .before .before .search .p)
+              (c .before .before .before .before .before .before .loop .x) (c .before .before .before .wide .result)
+              (c .before .before .before .before .before .before .loop .inv .0)
+              (c .before .before .before .before .before .loop-test .taken) e,
+        ),
+      ),
+    )
 
 can-follow-requires-2 :
     tie.Need-can-follow-requires-2 Inv-loop2 μ-loop2 Inv-loop μ-loop Inv-search μ-search
@@ -92,10 +170,45 @@ wide-requires-2 : tie.Need-wide-requires-2 Inv-loop2 μ-loop2 Inv-loop μ-loop I
 wide-requires-2 c κs = search needs
 
 loop2-less : tie.Need-loop2-less Inv-loop2 μ-loop2 Inv-loop μ-loop Inv-search μ-search
-loop2-less c = let e = c .wide2 .ensures in let g = c .before .before .before .before .before .before .before .before .before .before .before .before .before .before .before .before .before .pre .1 .1 .1 (c .before .before .before .before .before .loop2 .y) (omega (arith, c .before .before .before .before .before .loop2 .inv .0)) (c .before .before .before .before .loop2-test .taken) in omega (arith, e, g .0, g .1, c .before .before .before .before .loop2-test .taken)
+loop2-less c =
+    let c4 = c .before .before .before .before in
+    let c5 = c4 .before in
+    let c17 = c5 .before .before .before .before .before .before .before .before .before .before .before .before in
+    let e = c .wide2 .ensures in
+    let g = c17 .pre .1 .1 .1 (c5 .loop2 .y) (omega (arith, c5 .loop2 .inv .0)) (c4 .loop2-test .taken) in
+    omega (arith, e, g .0, g .1, c4 .loop2-test .taken)
 
 loop2-again : tie.Need-loop2-again Inv-loop2 μ-loop2 Inv-loop μ-loop Inv-search μ-search
-loop2-again c = let e = c .wide2 .ensures in let g = c .before .before .before .before .before .before .before .before .before .before .before .before .before .before .before .before .before .pre .1 .1 .1 (c .before .before .before .before .before .loop2 .y) (omega (arith, c .before .before .before .before .before .loop2 .inv .0)) (c .before .before .before .before .loop2-test .taken) in (omega (arith, e, g .0, c .before .before .before .before .before .loop2 .inv .0), (omega (arith, e, g .1), (search needs, λ k ns l r. y-step k (c .before .before .before .before .before .before .before .before .before .before .before .before .before .before .before .before .before .args .start .marks) (c .before .before .before .before .before .before .before .before .before .before .before .before .before .before .before .before .before .args .square .now) ns (c .before .before .before .before .before .before .before .before .before .before .before .before .before .before .before .before .before .args .later .now) (c .before .before .before .before .before .before .before .before .before .before .before .before .before .before .before .before .before .args .slots) r l (c .before .before .before .before .before .before .before .before .before .before .before .before .before .before .search .p) (c .before .before .before .before .before .before .before .before .before .before .before .before .loop .x) (c .before .before .before .before .before .loop2 .y) (c .wide2 .result) (c .before .before .before .before .before .loop2 .inv .0) (c .before .before .before .before .loop2-test .taken) (c .before .before .before .before .before .loop2 .inv .1 .1 .1 k ns l r) (sym (c .before .before .before .can-follow2 .ensures) ∙ c .before .before .if3 .left) e)))
+loop2-again c =
+    let e = c .wide2 .ensures in
+    let g =
+    c .before .before .before .before .before .before .before .before .before .before .before .before .before .before .before .before .before .pre .1 .1 .1
+    (c .before .before .before .before .before .loop2 .y) (omega (
+      arith,
+      c .before .before .before .before .before .loop2 .inv .0,
+    )) (c .before .before .before .before .loop2-test .taken)
+    in (
+      omega (arith, e, g .0, c .before .before .before .before .before .loop2 .inv .0),
+      (
+        omega (arith, e, g .1),
+        (
+          search needs,
+          λ k ns l r. y-step k
+              (c .before .before .before .before .before .before .before .before .before .before .before .before .before .before .before .before .before .args .start .marks)
+              (c .before .before .before .before .before .before .before .before .before .before .before .before .before .before .before .before .before .args .square .now)
+              ns
+              (c .before .before .before .before .before .before .before .before .before .before .before .before .before .before .before .before .before .args .later .now)
+              (c .before .before .before .before .before .before .before .before .before .before .before .before .before .before .before .before .before .args .slots)
+              r l
+              (c .before .before .before .before .before .before .before .before .before .before .before .before .before .before .search .p)
+              (c .before .before .before .before .before .before .before .before .before .before .before .before .loop .x)
+              (c .before .before .before .before .before .loop2 .y) (c .wide2 .result)
+              (c .before .before .before .before .before .loop2 .inv .0) (c .before .before .before .before .loop2-test .taken)
+              (c .before .before .before .before .before .loop2 .inv .1 .1 .1 k ns l r) (sym
+              (c .before .before .before .can-follow2 .ensures) ∙ c .before .before .if3 .left) e,
+        ),
+      ),
+    )
 
 add-x-3 : tie.Need-add-x-3 Inv-loop2 μ-loop2 Inv-loop μ-loop Inv-search μ-search
 add-x-3 c = search needs
@@ -104,7 +217,25 @@ loop-less-3 : tie.Need-loop-less-3 Inv-loop2 μ-loop2 Inv-loop μ-loop Inv-searc
 loop-less-3 c = search needs
 
 loop-again-3 : tie.Need-loop-again-3 Inv-loop2 μ-loop2 Inv-loop μ-loop Inv-search μ-search
-loop-again-3 c = (search needs, (search needs, (search needs, λ k ns l r. x-done k (c .before .before .before .before .before .before .before .before .before .before .before .before .before .args .start .marks) (c .before .before .before .before .before .before .before .before .before .before .before .before .before .args .square .now) ns (c .before .before .before .before .before .before .before .before .before .before .before .before .before .args .later .now) (c .before .before .before .before .before .before .before .before .before .before .before .before .before .args .slots) r l (c .before .before .before .before .before .before .before .before .before .before .search .p) (c .before .before .before .before .before .before .before .before .loop .x) (c .before .loop2 .y) (c .before .before .before .before .before .before .before .before .loop .inv .1 .1 .1 k ns l r) (c .loop2-test .left) (c .before .loop2 .inv .1 .1 .1 k ns l r))))
+loop-again-3 c = (
+  search needs,
+  (
+    search needs,
+    (
+      search needs,
+      λ k ns l r. x-done k
+          (c .before .before .before .before .before .before .before .before .before .before .before .before .before .args .start .marks)
+          (c .before .before .before .before .before .before .before .before .before .before .before .before .before .args .square .now)
+          ns
+          (c .before .before .before .before .before .before .before .before .before .before .before .before .before .args .later .now)
+          (c .before .before .before .before .before .before .before .before .before .before .before .before .before .args .slots)
+          r l (c .before .before .before .before .before .before .before .before .before .before .search .p)
+          (c .before .before .before .before .before .before .before .before .loop .x) (c .before .loop2 .y)
+          (c .before .before .before .before .before .before .before .before .loop .inv .1 .1 .1 k ns l r)
+          (c .loop2-test .left) (c .before .loop2 .inv .1 .1 .1 k ns l r),
+    ),
+  ),
+)
 
 add-p : tie.Need-add-p Inv-loop2 μ-loop2 Inv-loop μ-loop Inv-search μ-search
 add-p c = search needs
@@ -113,13 +244,44 @@ search-less : tie.Need-search-less Inv-loop2 μ-loop2 Inv-loop μ-loop Inv-searc
 search-less c = search needs
 
 search-again : tie.Need-search-again Inv-loop2 μ-loop2 Inv-loop μ-loop Inv-search μ-search
-search-again c = (search needs, (search needs, λ k ns l r. p-done k (c .before .before .before .before .before .before .args .start .marks) (c .before .before .before .before .before .before .args .square .now) ns (c .before .before .before .before .before .before .args .later .now) (c .before .before .before .before .before .before .args .slots) r l (c .before .before .before .search .p) (c .before .loop .x) (c .before .before .before .search .inv .1 .1 k ns l r) (c .loop-test .left) (c .before .loop .inv .1 .1 .1 k ns l r)))
+search-again c = (
+  search needs,
+  (
+    search needs,
+    λ k ns l r. p-done k
+        (c .before .before .before .before .before .before .args .start .marks)
+        (c .before .before .before .before .before .before .args .square .now) ns
+        (c .before .before .before .before .before .before .args .later .now)
+        (c .before .before .before .before .before .before .args .slots) r l (c .before .before .before .search .p)
+        (c .before .loop .x) (c .before .before .before .search .inv .1 .1 k ns l r) (c .loop-test .left)
+        (c .before .loop .inv .1 .1 .1 k ns l r),
+  ),
+)
 
 returns : tie.Need-returns Inv-loop2 μ-loop2 Inv-loop μ-loop Inv-search μ-search
-returns c = rw (c .before .search .inv .1 .0) λ k ns l r. none-left k (c .before .before .before .before .args .start .marks) (c .before .before .before .before .args .square .now) ns (c .before .before .before .before .args .later .now) (c .before .before .before .before .args .slots) r l (c .before .search .p) (c .search-test .left) (c .before .search .inv .1 .1 k ns l r)
+returns c =
+    rw (c .before .search .inv .1 .0) λ k ns l r. none-left k (c .before .before .before .before .args .start .marks)
+    (c .before .before .before .before .args .square .now) ns (c .before .before .before .before .args .later .now)
+    (c .before .before .before .before .args .slots) r l (c .before .search .p) (c .search-test .left)
+    (c .before .search .inv .1 .1 k ns l r)
 
 returns-2 : tie.Need-returns-2 Inv-loop2 μ-loop2 Inv-loop μ-loop Inv-search μ-search
-returns-2 c = λ k ns l r. first-found k (c .before .before .before .before .before .before .before .before .before .before .before .before .before .before .before .args .start .marks) (c .before .before .before .before .before .before .before .before .before .before .before .before .before .before .before .args .square .now) ns (c .before .before .before .before .before .before .before .before .before .before .before .before .before .before .before .args .later .now) (c .before .before .before .before .before .before .before .before .before .before .before .before .before .before .before .args .slots) r l (c .before .before .before .before .before .before .before .before .before .before .before .before .search .p) (c .before .before .before .before .before .before .before .before .before .before .loop .x) (c .before .before .before .loop2 .y) (c .before .before .before .loop2 .inv .0) (c .before .before .loop2-test .taken) (c .before .before .before .before .before .before .before .before .before .before .before .before .search .inv .1 .1 k ns l r) (c .before .before .before .before .before .before .before .before .before .before .loop .inv .1 .1 .1 k ns l r) (c .before .before .before .loop2 .inv .1 .1 .1 k ns l r) (sym (c .before .before .before .before .before .can-follow .ensures) ∙ not-false _ (c .before .before .before .before .if2 .left)) (sym (c .before .can-follow2 .ensures) ∙ c .if3 .taken)
+returns-2 c =
+    λ k ns l r. first-found k
+    (c .before .before .before .before .before .before .before .before .before .before .before .before .before .before .before .args .start .marks)
+    (c .before .before .before .before .before .before .before .before .before .before .before .before .before .before .before .args .square .now)
+    ns
+    (c .before .before .before .before .before .before .before .before .before .before .before .before .before .before .before .args .later .now)
+    (c .before .before .before .before .before .before .before .before .before .before .before .before .before .before .before .args .slots)
+    r l (c .before .before .before .before .before .before .before .before .before .before .before .before .search .p)
+    (c .before .before .before .before .before .before .before .before .before .before .loop .x)
+    (c .before .before .before .loop2 .y) (c .before .before .before .loop2 .inv .0)
+    (c .before .before .loop2-test .taken)
+    (c .before .before .before .before .before .before .before .before .before .before .before .before .search .inv .1 .1
+    k ns l r) (c .before .before .before .before .before .before .before .before .before .before .loop .inv .1 .1 .1 k
+    ns l r) (c .before .before .before .loop2 .inv .1 .1 .1 k ns l r) (sym
+    (c .before .before .before .before .before .can-follow .ensures) ∙ not-false _
+    (c .before .before .before .before .if2 .left)) (sym (c .before .can-follow2 .ensures) ∙ c .if3 .taken)
 
 pub first-clash-spec : {M : Type 1} → statement M
 first-clash-spec =

@@ -7,22 +7,70 @@ use Rattle.verdict.proofs.weigh.Statement.{statement}
 use Rattle.verdict.proofs.weigh.Tie as tie
 
 fill-names-requires : tie.Need-fill-names-requires
-fill-names-requires c κs = let e = fits-count (c .before .before .before .before .pre .1 .1 .0) _ (c .before .before .before .before .pre .1 .1 .1) in (c .before .before .before .before .pre .0, omega (arith, e, c .before .before .before .before .pre .1 .1 .1 .few))
+fill-names-requires c κs =
+    let c4 = c .before .before .before .before in
+    let e = fits-count (c4 .pre .1 .1 .0) _ (c4 .pre .1 .1 .1) in
+    (c4 .pre .0, omega (arith, e, c4 .pre .1 .1 .1 .few))
 
 slice-aggregate-fill-later : tie.Need-slice-aggregate-fill-later
 slice-aggregate-fill-later c = search needs
 
 fill-later-requires : tie.Need-fill-later-requires
-fill-later-requires c κs = let e = fits-count (c .before .before .before .before .before .before .before .before .before .pre .1 .1 .0) _ (c .before .before .before .before .before .before .before .before .before .pre .1 .1 .1) in let f = c .before .before .before .before .fill-names .ensures in (f .room, (search needs, (omega (arith, e, f .count, c .before .before .before .before .before .before .before .before .before .pre .1 .1 .1 .few), fits-numbers (c .before .before .before .before .before .before .before .before .before .pre .1 .1 .0) _ (c .before .before .before .before .before .before .before .before .before .pre .1 .1 .1) _ _ f)))
+fill-later-requires c κs =
+    let e = fits-count (c .before .before .before .before .before .before .before .before .before .pre .1 .1 .0) _
+    (c .before .before .before .before .before .before .before .before .before .pre .1 .1 .1) in
+    let f = c .before .before .before .before .fill-names .ensures in (
+      f .room,
+      (
+        search needs,
+        (
+          omega (
+            arith,
+            e,
+            f .count,
+            c .before .before .before .before .before .before .before .before .before .pre .1 .1 .1 .few,
+          ),
+          fits-numbers
+              (c .before .before .before .before .before .before .before .before .before .pre .1 .1 .0) _
+              (c .before .before .before .before .before .before .before .before .before .pre .1 .1 .1) _ _ f,
+        ),
+      ),
+    )
 
 survey-model-requires : tie.Need-survey-model-requires
-survey-model-requires c κs = (c .before .before .before .before .before .before .before .before .before .before .before .before .pre .1 .0, (c .before .before .before .before .before .before .before .before .before .before .before .before .pre .1 .1 .0, fits-stands (c .before .before .before .before .before .before .before .before .before .before .before .before .pre .1 .1 .0) _ (c .before .before .before .before .before .before .before .before .before .before .before .before .pre .1 .1 .1)))
+survey-model-requires c κs =
+    let c12 = c .before .before .before .before .before .before .before .before .before .before .before .before in
+    (c12 .pre .1 .0, (c12 .pre .1 .1 .0, fits-stands (c12 .pre .1 .1 .0) _ (c12 .pre .1 .1 .1)))
 
 slice-aggregate-first-clash : tie.Need-slice-aggregate-first-clash
 slice-aggregate-first-clash c = search needs
 
 first-clash-requires : tie.Need-first-clash-requires
-first-clash-requires c κs = let e = fits-count (c .before .before .before .before .before .before .before .before .before .before .before .before .before .before .before .before .before .before .before .pre .1 .1 .0) _ (c .before .before .before .before .before .before .before .before .before .before .before .before .before .before .before .before .before .before .before .pre .1 .1 .1) in let f = c .before .before .before .before .before .before .before .before .before .before .before .before .before .before .fill-names .ensures in (search needs, (c .before .before .before .before .before .before .before .before .before .fill-later .ensures .0, (omega (arith, e, f .count, c .before .before .before .before .before .before .before .before .before .before .before .before .before .before .before .before .before .before .before .pre .1 .1 .1 .few), linked-ahead _ (c .before .before .before .before .before .before .before .before .before .fill-later .last .1 .1 .0) _ (c .before .before .before .before .before .before .before .before .before .fill-later .ensures .1))))
+first-clash-requires c κs =
+    let e = fits-count
+    (c .before .before .before .before .before .before .before .before .before .before .before .before .before .before .before .before .before .before .before .pre .1 .1 .0)
+    _
+    (c .before .before .before .before .before .before .before .before .before .before .before .before .before .before .before .before .before .before .before .pre .1 .1 .1)
+    in
+    let f =
+    c .before .before .before .before .before .before .before .before .before .before .before .before .before .before .fill-names .ensures
+    in (
+      search needs,
+      (
+        c .before .before .before .before .before .before .before .before .before .fill-later .ensures .0,
+        (
+          omega (
+            arith,
+            e,
+            f .count,
+            c .before .before .before .before .before .before .before .before .before .before .before .before .before .before .before .before .before .before .before .pre .1 .1 .1 .few,
+          ),
+          linked-ahead _
+              (c .before .before .before .before .before .before .before .before .before .fill-later .last .1 .1 .0) _
+              (c .before .before .before .before .before .before .before .before .before .fill-later .ensures .1),
+        ),
+      ),
+    )
 
 same-length : tie.Need-same-length
 same-length c = search needs
@@ -31,8 +79,21 @@ same-length-2 : tie.Need-same-length-2
 same-length-2 c = search needs
 
 returns : tie.Need-returns
-returns c = let f = c .before .before .before .before .before .before .before .before .before .before .before .before .before .before .before .fill-names .ensures in
-    (c .before .before .before .before .before .before .before .before .before .before .before .before .before .before .before .fill-names .ensures .room, (search needs, λ k fits. weighed k _ fits _ (c .before .before .before .before .before .before .before .before .before .before .fill-later .last .1 .1 .0) _ _ f (c .before .before .before .before .before .before .before .before .before .before .fill-later .ensures .1) (c .before .before .before .before .before .before .before .survey-model .result) (c .before .before .before .before .before .before .before .survey-model .ensures k (fits-stands k _ fits)) (c .first-clash .result) (c .first-clash .ensures)))
+returns c =
+    let f =
+    c .before .before .before .before .before .before .before .before .before .before .before .before .before .before .before .fill-names .ensures
+    in (
+      c .before .before .before .before .before .before .before .before .before .before .before .before .before .before .before .fill-names .ensures .room,
+      (
+        search needs,
+        λ k fits. weighed k _ fits _
+            (c .before .before .before .before .before .before .before .before .before .before .fill-later .last .1 .1 .0) _ _
+            f (c .before .before .before .before .before .before .before .before .before .before .fill-later .ensures .1)
+            (c .before .before .before .before .before .before .before .survey-model .result)
+            (c .before .before .before .before .before .before .before .survey-model .ensures k (fits-stands k _ fits))
+            (c .first-clash .result) (c .first-clash .ensures),
+      ),
+    )
 
 pub weigh-spec : {M : Type 1} → statement M
 weigh-spec =

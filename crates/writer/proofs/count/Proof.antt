@@ -28,22 +28,25 @@ enum-known-l-2 : tie.Need-enum-known-l-2
 enum-known-l-2 c = search needs
 
 returns : tie.Need-returns
-returns c = let s = c .before .before .before .before .before .before .before .before .before .before .before .args
-    .table .now in
-    let x : List ℕ = c .before .before .before .before .before .before .load .last .1 .0 in
-    let y : List ℕ = c .before .before .before .before .before .before .load .last .1 .1 .0 in
-    let z : List ℕ = c .before .before .before .before .before .before .load .last .1 .1 .1 .0 in
-    subst (λ r. LoadAnswer s r x y z) (c .before .l .given .1)
-    (c .before .before .before .before .before .before .load .ensures)
+returns c =
+    let c6 = c .before .before .before .before .before .before in
+    let c11 = c6 .before .before .before .before .before in
+    let s = c11 .args .table .now in
+    let x : List ℕ = c6 .load .last .1 .0 in
+    let y : List ℕ = c6 .load .last .1 .1 .0 in
+    let z : List ℕ = c6 .load .last .1 .1 .1 .0 in
+    subst (λ r. LoadAnswer s r x y z) (c .before .l .given .1) (c6 .load .ensures)
 
 returns-2 : tie.Need-returns-2
-returns-2 c = let s = c .before .before .before .before .before .before .before .before .before .before .before .args
-    .table .now in
-    let x : List ℕ = c .before .before .before .before .before .before .load .last .1 .0 in
-    let y : List ℕ = c .before .before .before .before .before .before .load .last .1 .1 .0 in
-    let z : List ℕ = c .before .before .before .before .before .before .load .last .1 .1 .1 .0 in
-    let g = subst (λ r. LoadAnswer s r x y z) (c .before .l2 .given .1)
-    (c .before .before .before .before .before .before .load .ensures) in (g .0, g .1, ap (λ k. countedFigures (Counts k)) (g .2))
+returns-2 c =
+    let c6 = c .before .before .before .before .before .before in
+    let c11 = c6 .before .before .before .before .before in
+    let s = c11 .args .table .now in
+    let x : List ℕ = c6 .load .last .1 .0 in
+    let y : List ℕ = c6 .load .last .1 .1 .0 in
+    let z : List ℕ = c6 .load .last .1 .1 .1 .0 in
+    let g = subst (λ r. LoadAnswer s r x y z) (c .before .l2 .given .1) (c6 .load .ensures) in
+    (g .0, g .1, ap (λ k. countedFigures (Counts k)) (g .2))
 
 pub count-spec : {M : Type 1} → statement M
 count-spec =

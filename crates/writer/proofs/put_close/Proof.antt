@@ -21,20 +21,19 @@ same-length : tie.Need-same-length
 same-length c = search needs
 
 returns : tie.Need-returns
-returns c = let o = c .before .before .before .before .before .before .before .before .before .args .text .now in
-    let x : List ℕ = c .before .before .before .before .before .before .put-byte .last .0 in
-    let y : List ℕ = c .before .before .put-mark .last .0 in
-    let e : c .before .before .before .before .before .before .put-byte .result
-    ≡ c .before .before .before .before .before .before .before .before .before .args .at + 1 =
-    c .before .before .before .before .before .before .put-byte .ensures .place in
+returns c =
+    let c2 = c .before .before in
+    let c6 = c2 .before .before .before .before in
+    let c9 = c6 .before .before .before in
+    let o = c9 .args .text .now in
+    let x : List ℕ = c6 .put-byte .last .0 in
+    let y : List ℕ = c2 .put-mark .last .0 in
+    let e : c6 .put-byte .result ≡ c9 .args .at + 1 = c6 .put-byte .ensures .place in
     record {
-      place = omega (arith, c .before .before .put-mark .ensures .place);
-      wrote =
-          wrote-then o x y (c .before .before .before .before .before .before .before .before .before .args .at)
-          (c .before .before .before .before .before .before .put-byte .result) (41 ∷ [])
-          (sign (c .before .before .before .before .before .before .before .before .before .args .mark)) e
-          (c .before .before .before .before .before .before .put-byte .ensures .wrote)
-          (c .before .before .put-mark .ensures .wrote);
+      place = omega (arith, c2 .put-mark .ensures .place);
+      wrote = wrote-then o x y (c9 .args .at)
+          (c6 .put-byte .result) (41 ∷ []) (sign (c9 .args .mark)) e (c6 .put-byte .ensures .wrote)
+          (c2 .put-mark .ensures .wrote);
     }
 
 pub put-close-spec : {M : Type 1} → statement M

@@ -33,71 +33,79 @@ wide16-requires-2 : tie.Need-wide16-requires-2
 wide16-requires-2 c κs = search needs
 
 put-name-requires : tie.Need-put-name-requires
-put-name-requires c κs = let a = c .before .before .before .before .before .before .before .before .before .args in
+put-name-requires c κs =
+    let c9 = c .before .before .before .before .before .before .before .before .before in
+    let a = c9 .args in
     let s = a .source .now in
     let o = a .text .now in
     let st = a .starts .now in
     let le = a .lengths .now in
-    let g : Stands s st le (a .n .0) = c .before .before .before .before .before .before .before .before .before .pre .0 in
-    let k = c .before .before .before .before .before .before .before .before .before .pre .1 in
+    let g : Stands s st le (a .n .0) = c9 .pre .0 in
+    let k = c9 .pre .1 in
     let b : Bytes = nameAt s st le (a .n .0) in
-    let l : length b ≡ getD le (a .n .0) 0 = length-take-le (getD le (a .n .0) 0) (drop (getD st (a .n .0) 0) s)
-    (let h = g .within in omega (arith, length-drop (getD st (a .n .0) 0) s)) in
+    let l : length b ≡ getD le (a .n .0) 0 = length-take-le (getD le (a .n .0) 0) (drop (getD st (a .n .0) 0) s) (let
+    h = g .within in
+    omega (arith, length-drop (getD st (a .n .0) 0) s)) in
     let h = g .within in (
       omega (arith, c .before .before .before .wide16 .ensures .0, c .before .wide162 .ensures .0),
-      omega (arith, c .before .wide162 .ensures .0, length-append b (sign (a .mark))),
+      omega (
+        arith,
+        c .before .wide162 .ensures .0,
+        length-append b (sign (a .mark)),
+      ),
     )
 
 put-mark-requires : tie.Need-put-mark-requires
-put-mark-requires c κs = let a = c .before .before .before .before .before .before .before .before .before .before
-    .before .before .before .args in
+put-mark-requires c κs =
+    let c3 = c .before .before .before in
+    let c5 = c3 .before .before in
+    let c7 = c5 .before .before in
+    let c13 = c7 .before .before .before .before .before .before in
+    let a = c13 .args in
     let s = a .source .now in
     let o = a .text .now in
     let st = a .starts .now in
     let le = a .lengths .now in
-    let g : Stands s st le (a .n .0) = c .before .before .before .before .before .before .before .before .before .before
-    .before .before .before .pre .0 in
-    let k = c .before .before .before .before .before .before .before .before .before .before .before .before .before
-    .pre .1 in
+    let g : Stands s st le (a .n .0) = c13 .pre .0 in
+    let k = c13 .pre .1 in
     let b : Bytes = nameAt s st le (a .n .0) in
-    let l : length b ≡ getD le (a .n .0) 0 = length-take-le (getD le (a .n .0) 0) (drop (getD st (a .n .0) 0) s)
-    (let h = g .within in omega (arith, length-drop (getD st (a .n .0) 0) s)) in
-    let w = c .before .before .before .put-name .ensures .wrote .size in
-    let n = ap₂ (λ (i j : ℕ). length (take j (drop i s)))
-    (c .before .before .before .before .before .before .before .wide16 .ensures .0)
-    (c .before .before .before .before .before .wide162 .ensures .0) in
-    omega (arith, c .before .before .before .put-name .ensures .place, length-append b (sign (a .mark)))
+    let l : length b ≡ getD le (a .n .0) 0 = length-take-le (getD le (a .n .0) 0) (drop (getD st (a .n .0) 0) s) (let
+    h = g .within in
+    omega (arith, length-drop (getD st (a .n .0) 0) s)) in
+    let w = c3 .put-name .ensures .wrote .size in
+    let n = ap₂ (λ (i j : ℕ). length (take j (drop i s))) (c7 .wide16 .ensures .0) (c5 .wide162 .ensures .0) in
+    omega (arith, c3 .put-name .ensures .place, length-append b (sign (a .mark)))
 
 same-length : tie.Need-same-length
 same-length c = search needs
 
 returns : tie.Need-returns
-returns c = let a = c .before .before .before .before .before .before .before .before .before .before .before .before
-    .before .before .before .before .args in
+returns c =
+    let c2 = c .before .before in
+    let c6 = c2 .before .before .before .before in
+    let c8 = c6 .before .before in
+    let c10 = c8 .before .before in
+    let c16 = c10 .before .before .before .before .before .before in
+    let a = c16 .args in
     let s = a .source .now in
     let o = a .text .now in
     let st = a .starts .now in
     let le = a .lengths .now in
-    let g : Stands s st le (a .n .0) = c .before .before .before .before .before .before .before .before .before .before
-    .before .before .before .before .before .before .pre .0 in
-    let k = c .before .before .before .before .before .before .before .before .before .before .before .before .before
-    .before .before .before .pre .1 in
+    let g : Stands s st le (a .n .0) = c16 .pre .0 in
+    let k = c16 .pre .1 in
     let b : Bytes = nameAt s st le (a .n .0) in
-    let l : length b ≡ getD le (a .n .0) 0 = length-take-le (getD le (a .n .0) 0) (drop (getD st (a .n .0) 0) s)
-    (let h = g .within in omega (arith, length-drop (getD st (a .n .0) 0) s)) in
-    let x : List ℕ = c .before .before .before .before .before .before .put-name .last .1 .1 .1 .0 in
-    let y : List ℕ = c .before .before .put-mark .last .0 in
-    let e : Put o (a .at) b (c .before .before .before .before .before .before .put-name .result) x =
-    subst (λ z. Put o (a .at) z (c .before .before .before .before .before .before .put-name .result) x)
-    (ap₂ (λ (i j : ℕ). take j (drop i s))
-    (c .before .before .before .before .before .before .before .before .before .before .wide16 .ensures .0)
-    (c .before .before .before .before .before .before .before .before .wide162 .ensures .0))
-    (c .before .before .before .before .before .before .put-name .ensures) in
+    let l : length b ≡ getD le (a .n .0) 0 = length-take-le (getD le (a .n .0) 0) (drop (getD st (a .n .0) 0) s) (let
+    h = g .within in
+    omega (arith, length-drop (getD st (a .n .0) 0) s)) in
+    let x : List ℕ = c6 .put-name .last .1 .1 .1 .0 in
+    let y : List ℕ = c2 .put-mark .last .0 in
+    let e : Put o (a .at) b (c6 .put-name .result) x = subst (λ z. Put o (a .at) z (c6 .put-name .result) x) (ap₂ (λ
+    (i j : ℕ). take j (drop i s)) (c10 .wide16 .ensures .0) (c8 .wide162 .ensures .0)) (c6 .put-name .ensures) in
     record {
-      place =
-          omega (arith, e .place, c .before .before .put-mark .ensures .place, length-append b (sign (a .mark)));
-      wrote = wrote-then o x y (a .at) (c .before .before .before .before .before .before .put-name .result) b
-          (sign (a .mark)) (e .place) (e .wrote) (c .before .before .put-mark .ensures .wrote);
+      place = omega (arith, e .place, c2 .put-mark .ensures .place, length-append b (sign (a .mark)));
+      wrote =
+          wrote-then o x y (a .at) (c6 .put-name .result) b (sign (a .mark)) (e .place) (e .wrote)
+          (c2 .put-mark .ensures .wrote);
     }
 
 pub put-leaf-spec : {M : Type 1} → statement M

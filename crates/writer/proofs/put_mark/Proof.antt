@@ -35,15 +35,16 @@ same-length : tie.Need-same-length
 same-length c = search needs
 
 returns-2 : tie.Need-returns-2
-returns-2 c = let m = c .before .before .before .before .before .before .before .args .mark in
-    let e : sign m ≡ c .before .before .before .before .before .sign-of .result ∷ [] =
-    sign-one m
-    (λ z. c .before .before .before .before .if1 .left
-    (c .before .before .before .before .before .sign-of .ensures ∙ z))
-    ∙ ap (λ b. b ∷ []) (sym (c .before .before .before .before .before .sign-of .ensures)) in
-    subst (λ x. Put (c .before .before .before .before .before .before .before .args .text .now)
-    (c .before .before .before .before .before .before .before .args .at) x (c .before .before .put-byte .result)
-    (c .before .before .put-byte .last .0)) (sym e) (c .before .before .put-byte .ensures)
+returns-2 c =
+    let c2 = c .before .before in
+    let c4 = c2 .before .before in
+    let c5 = c4 .before in
+    let c7 = c5 .before .before in
+    let m = c7 .args .mark in
+    let e : sign m ≡ c5 .sign-of .result ∷ [] = sign-one m (λ z. c4 .if1 .left (c5 .sign-of .ensures ∙ z)) ∙ ap (λ b.
+    b ∷ []) (sym (c5 .sign-of .ensures)) in
+    subst (λ x. Put (c7 .args .text .now) (c7 .args .at) x (c2 .put-byte .result) (c2 .put-byte .last .0)) (sym e)
+    (c2 .put-byte .ensures)
 
 pub put-mark-spec : {M : Type 1} → statement M
 put-mark-spec =

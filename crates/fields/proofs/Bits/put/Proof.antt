@@ -51,7 +51,8 @@ loop-less : tie.Need-loop-less Inv-loop μ-loop
 loop-less c = search needs
 
 loop-again : tie.Need-loop-again Inv-loop μ-loop
-loop-again c = let l = c .before .before .before .before .before .loop in
+loop-again c =
+    let l = c .before .before .before .before .before .loop in
     let a = c .before .before .before .before .before .before .before .args in
     let lb = bits-length (a .s .now) in
     let ln = bitsN-length (a .width) (a .value) in
@@ -60,8 +61,13 @@ loop-again c = let l = c .before .before .before .before .before .loop in
       search needs,
       (
         c .before .before .put-bit .kept .0 ∙ l .inv .1 .0,
-        rw (c .before .before .put-bit .ensures, l .inv .1 .1, ← bitsN-at (a .width) (a .value) (l .i) m, add-one (l .i))
-            (paste-suc (bitsOf (a .s .now)) (a .self .at) (bitsN (a .width) (a .value)) (l .i) 0 (omega arith) n),
+        rw (
+          c .before .before .put-bit .ensures,
+          l .inv .1 .1,
+          ← bitsN-at (a .width) (a .value) (l .i) m,
+          add-one (l .i),
+        ) (paste-suc (bitsOf (a .s .now))
+            (a .self .at) (bitsN (a .width) (a .value)) (l .i) 0 (omega arith) n),
       ),
     )
 
