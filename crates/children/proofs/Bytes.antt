@@ -14,7 +14,8 @@ pub start-name : (b : ℕ) → startByte b ≡ true → nameByte b ≡ true
 unfolding nameByte
 start-name b e = or-left (startByte b) _ e
 
-spaces : (b : ℕ) (x y z : Bool) → (x ≡ true → nameByte b ≡ false) → (y ≡ true → nameByte b ≡ false) → (z ≡ true → nameByte b ≡ false) → (x || (y || z)) ≡ true → nameByte b ≡ false
+spaces : (b : ℕ) (x y z : Bool) → (x ≡ true → nameByte b ≡ false) → (y ≡ true → nameByte b ≡ false) →
+    (z ≡ true → nameByte b ≡ false) → (x || (y || z)) ≡ true → nameByte b ≡ false
 spaces b true y z f g h e = f refl
 spaces b false true z f g h e = g refl
 spaces b false false true f g h e = h refl

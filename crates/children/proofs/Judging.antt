@@ -1,4 +1,5 @@
--- The first fault of a text, found byte by byte, is its fault of the least place; where there is none the text is its words. Assumes nothing.
+-- The first fault of a text, found byte by byte, is its fault of the least place; where there is none the text is its
+-- words. Assumes nothing.
 use mathlib.Core.Bool.{true, false, cond, true≢false}
 use mathlib.Core.List.{List, [], _∷_, _++_, append-assoc, append-nil}
 use mathlib.Core.Logic.{_⊎_, inl, inr}
@@ -30,7 +31,10 @@ pub right-later : (n b : ℕ) → (n ≡ 0 → ⊥) → right n b ≡ nameByte b
 right-later zero b h = absurd (h refl)
 right-later (suc n) b h = refl
 
-pub judge-at : (text : Bytes) (n i : ℕ) → i < length text → judge n i (drop i text) ≡ cond (space (getD text i 0)) (judge 0 (i + 1) (drop (i + 1) text)) (cond (right n (getD text i 0)) (cond (eqb n nameLimit) (Stop (ChildTooLong i)) (judge (n + 1) (i + 1) (drop (i + 1) text))) (Stop (ChildByte i)))
+pub judge-at : (text : Bytes) (n i : ℕ) → i < length text →
+    judge n i (drop i text) ≡ cond (space (getD text i 0)) (judge 0 (i + 1) (drop (i + 1) text))
+    (cond (right n (getD text i 0))
+    (cond (eqb n nameLimit) (Stop (ChildTooLong i)) (judge (n + 1) (i + 1) (drop (i + 1) text))) (Stop (ChildByte i)))
 unfolding judge
 judge-at text n i h = rw (at-next text i h, add-one i, add-one n)
 
@@ -43,7 +47,8 @@ endRun-append : (n : ℕ) (p s : Bytes) → endRun n (p ++ s) ≡ endRun (endRun
 endRun-append n [] s = refl
 endRun-append n (b ∷ p) s = endRun-append (cond (nameByte b) (suc n) 0) p s
 
-endRun-next : (text : Bytes) (i : ℕ) → i < length text → endRun 0 (take (i + 1) text) ≡ cond (nameByte (getD text i 0)) (suc (endRun 0 (take i text))) 0
+endRun-next : (text : Bytes) (i : ℕ) → i < length text →
+    endRun 0 (take (i + 1) text) ≡ cond (nameByte (getD text i 0)) (suc (endRun 0 (take i text))) 0
 endRun-next text i h = rw (add-one i, take-suc text i 0 h) (endRun-append 0 (take i text) (getD text i 0 ∷ []))
 
 -- no fault stands below a place
@@ -94,19 +99,37 @@ module _ (text : Bytes) (i : ℕ) (h : i < length text) (c : Clear text i) where
   by-space : space here ≡ true → Rest 0 → Judged text (judge run i (drop i text))
   by-space s r =
       let m : nameByte here ≡ false = space-name here s in
-      rw (judge-at text run i h, s) (r (clear-next text i c λ w. elim w [ inl x ↦ true≢false (sym s ∙ x .0) | inr x ↦ true≢false (sym (x .0) ∙ m) ]))
+      rw (judge-at text run i h, s) (r
+      (clear-next text i c λ w. elim w [ inl x ↦ true≢false (sym s ∙ x .0) | inr x ↦ true≢false (sym (x .0) ∙ m) ]))
 
-  by-name : space here ≡ false → right run here ≡ true → eqb run nameLimit ≡ false → Rest (run + 1) → Judged text (judge run i (drop i text))
-  by-name s e q r = rw (judge-at text run i h, s, e, q) (r (clear-next text i c λ w. elim w [ inl x ↦ true≢false (sym e ∙ x .1) | inr x ↦ eqb-false run nameLimit q (x .1) ]))
+  by-name : space here ≡ false → right run here ≡ true → eqb run nameLimit ≡ false → Rest (run + 1) →
+      Judged text (judge run i (drop i text))
+  by-name s e q r = rw (
+    judge-at text run i h,
+    s,
+    e,
+    q,
+  ) (r (clear-next text i c λ w. elim w [
+    | inl x ↦ true≢false (sym e
+        ∙ x .1)
+    | inr x ↦ eqb-false run nameLimit q (x .1)
+  ]))
 
-  by-long : space here ≡ false → right run here ≡ true → eqb run nameLimit ≡ true → Judged text (judge run i (drop i text))
-  by-long s e q = rw (judge-at text run i h, s, e, q) record { fault = long i h (right-name run here e) (eqb-true run nameLimit q); least = c }
+  by-long : space here ≡ false → right run here ≡ true → eqb run nameLimit ≡ true →
+      Judged text (judge run i (drop i text))
+  by-long s e q = rw (judge-at text run i h, s, e, q) record {
+    fault =
+        long i h (right-name run here e) (eqb-true run nameLimit q);
+    least = c;
+  }
 
   by-byte : space here ≡ false → right run here ≡ false → Judged text (judge run i (drop i text))
   by-byte s e = rw (judge-at text run i h, s, e) record { fault = byte i h s e; least = c }
 
-judged-from : (text : Bytes) (k i : ℕ) → k + i ≡ length text → endRun 0 (take i text) ≤ nameLimit → Clear text i → Judged text (judge (endRun 0 (take i text)) i (drop i text))
-judged-from text zero i e l c = rw (judge-end text (endRun 0 (take i text)) i (omega arith)) λ f h. let w = fault-within h in let d = c f h in omega arith
+judged-from : (text : Bytes) (k i : ℕ) → k + i ≡ length text → endRun 0 (take i text) ≤ nameLimit → Clear text i →
+    Judged text (judge (endRun 0 (take i text)) i (drop i text))
+judged-from text zero i e l c = rw (judge-end text (endRun 0 (take i text)) i (omega arith)) λ f h. let w =
+    fault-within h in let d = c f h in omega arith
 judged-from text (suc k) i e l c =
     let h : i < length text = omega arith in
     let n = endRun 0 (take i text) in
@@ -115,12 +138,14 @@ judged-from text (suc k) i e l c =
     split (space b)
     (λ s.
     let z : endRun 0 (take (i + 1) text) ≡ 0 = rw (endRun-next text i h, space-name b s) in
-    by-space text i h c s (λ d. subst (λ j. Judged text (judge j (i + 1) (drop (i + 1) text))) z (rest (omega arith) d)))
+    by-space text i h c s (λ d. subst (λ j. Judged text (judge j (i + 1) (drop (i + 1) text))) z
+    (rest (omega arith) d)))
     (λ s. split (right n b)
     (λ r. split (eqb n nameLimit) (by-long text i h c s r)
     (λ q.
     let z : endRun 0 (take (i + 1) text) ≡ n + 1 = endRun-next text i h ∙ rw (right-name n b r, add-one) in
-    by-name text i h c s r q (λ d. subst (λ j. Judged text (judge j (i + 1) (drop (i + 1) text))) z (rest (omega (arith, eqb-false n nameLimit q)) d))))
+    by-name text i h c s r q (λ d. subst (λ j. Judged text (judge j (i + 1) (drop (i + 1) text))) z
+    (rest (omega (arith, eqb-false n nameLimit q)) d))))
     (by-byte text i h c s))
 
 pub judge-correct : (text : Bytes) → Judged text (judge 0 0 text)
@@ -139,17 +164,25 @@ starts-more : (acc s : Bytes) → Starts acc → Starts (acc ++ s)
 starts-more [] s h = absurd h
 starts-more (b ∷ acc) s h = h
 
-each-more : (acc : Bytes) (b : ℕ) → Each (λ b. nameByte b ≡ true) acc → nameByte b ≡ true → Each (λ b. nameByte b ≡ true) (acc ++ (b ∷ []))
+each-more : (acc : Bytes) (b : ℕ) → Each (λ b. nameByte b ≡ true) acc → nameByte b ≡ true →
+    Each (λ b. nameByte b ≡ true) (acc ++ (b ∷ []))
 each-more [] b e h = (h, tt)
 each-more (a ∷ acc) b e h = (e .0, each-more acc b (e .1) h)
 
-grows : {n : ℕ} {acc : Bytes} (b : ℕ) → Grown n acc → right n b ≡ true → (n ≡ nameLimit → ⊥) → Grown (suc n) (acc ++ (b ∷ []))
+grows : {n : ℕ} {acc : Bytes} (b : ℕ) → Grown n acc → right n b ≡ true → (n ≡ nameLimit → ⊥) →
+    Grown (suc n) (acc ++ (b ∷ []))
 grows b nothing r d = some {acc = b ∷ []} record { starts = r; bytes = (start-name b r, tt); short = omega arith } refl
 grows b (some {n} {acc} h e) r d =
     let l = length-append acc (b ∷ []) in
-    some {n = suc n} {acc = acc ++ (b ∷ [])} record { starts = starts-more acc (b ∷ []) (h .starts); bytes = each-more acc b (h .bytes) r; short = omega (arith, h .short, d, l) } (omega (arith, l))
+    some {n = suc n} {acc = acc ++ (b ∷ [])} record {
+      starts = starts-more acc (b ∷ []) (h .starts);
+      bytes =
+          each-more acc b (h .bytes) r;
+      short = omega (arith, h .short, d, l);
+    } (omega (arith, l))
 
-words-gap : {n : ℕ} {acc : Bytes} (b : ℕ) (s : Bytes) (ws : List Bytes) → Grown n acc → space b ≡ true → Words s ws → Words (acc ++ (b ∷ s)) (flush acc ws)
+words-gap : {n : ℕ} {acc : Bytes} (b : ℕ) (s : Bytes) (ws : List Bytes) → Grown n acc → space b ≡ true → Words s ws →
+    Words (acc ++ (b ∷ s)) (flush acc ws)
 words-gap b s ws nothing e h = gap e h
 words-gap b s ws (some {acc = []} n z) e h = absurd (n .starts)
 words-gap b s ws (some {acc = a ∷ acc} n z) e h = name b n e h
@@ -164,13 +197,15 @@ unfolding judge cut
 words-from n i acc [] g e = words-end g
 words-from n i acc (b ∷ s) g e =
     split (space b)
-    (λ h. let f : judge 0 (suc i) s ≡ Fine = rw h at e in rw h (words-gap b s (cut [] s) g h (words-from 0 (suc i) [] s nothing f)))
+    (λ h. let f : judge 0 (suc i) s ≡ Fine = rw h at e in
+    rw h (words-gap b s (cut [] s) g h (words-from 0 (suc i) [] s nothing f)))
     (λ h. split (right n b)
     (λ r. split (eqb n nameLimit)
     (λ q. let f : Stop (ChildTooLong i) ≡ Fine = rw (h, r, q) at e in absurd (stop-fine _ f))
     (λ q.
     let f : judge (suc n) (suc i) s ≡ Fine = rw (h, r, q) at e in
-    rw h (subst (λ l. Words l (cut (acc ++ (b ∷ [])) s)) (append-assoc acc (b ∷ []) s) (words-from (suc n) (suc i) (acc ++ (b ∷ [])) s (grows b g r (eqb-false n nameLimit q)) f))))
+    rw h (subst (λ l. Words l (cut (acc ++ (b ∷ [])) s)) (append-assoc acc (b ∷ []) s)
+    (words-from (suc n) (suc i) (acc ++ (b ∷ [])) s (grows b g r (eqb-false n nameLimit q)) f))))
     (λ r. let f : Stop (ChildByte i) ≡ Fine = rw (h, r) at e in absurd (stop-fine _ f)))
 
 pub fine-words : (text : Bytes) → judge 0 0 text ≡ Fine → Words text (cut [] text)
@@ -180,14 +215,16 @@ fine-words text e = words-from 0 0 [] text nothing e
 right-run : (n b : ℕ) → nameByte b ≡ true → right (suc n) b ≡ true
 right-run n b e = e
 
-judge-run : (n i : ℕ) (w s : Bytes) → 1 ≤ n → n + length w ≤ nameLimit → Each (λ b. nameByte b ≡ true) w → judge n i (w ++ s) ≡ judge (n + length w) (i + length w) s
+judge-run : (n i : ℕ) (w s : Bytes) → 1 ≤ n → n + length w ≤ nameLimit → Each (λ b. nameByte b ≡ true) w →
+    judge n i (w ++ s) ≡ judge (n + length w) (i + length w) s
 unfolding judge
 judge-run n i [] s h l e = ap₂ (λ a b. judge a b s) (omega arith) (omega arith)
 judge-run zero i (b ∷ w) s h l e = absurd (omega arith)
 judge-run (suc n) i (b ∷ w) s h l e =
     let a : space b ≡ false = name-space b (e .0) in
     let q : eqb (suc n) nameLimit ≡ false = ne-eqb (suc n) nameLimit (omega arith) in
-    rw (a, e .0, q) (judge-run (suc (suc n)) (suc i) w s (omega arith) (omega arith) (e .1) ∙ ap₂ (λ x y. judge x y s) (omega arith) (omega arith))
+    rw (a, e .0, q) (judge-run (suc (suc n)) (suc i) w s (omega arith) (omega arith) (e .1)
+    ∙ ap₂ (λ x y. judge x y s) (omega arith) (omega arith))
 
 judge-name : (i : ℕ) (w s : Bytes) → Name w → judge 0 i (w ++ s) ≡ judge (length w) (i + length w) s
 unfolding judge
@@ -196,7 +233,8 @@ judge-name i (b ∷ w) s n =
     let e = n .bytes in
     let a : space b ≡ false = name-space b (e .0) in
     let l = n .short in
-    rw (a, n .starts) (judge-run 1 (suc i) w s (omega arith) (omega arith) (e .1) ∙ ap₂ (λ x y. judge x y s) (omega arith) (omega arith))
+    rw (a, n .starts) (judge-run 1 (suc i) w s (omega arith) (omega arith) (e .1)
+    ∙ ap₂ (λ x y. judge x y s) (omega arith) (omega arith))
 
 pub words-fine : {s : Bytes} {ws : List Bytes} (i : ℕ) → Words s ws → judge 0 i s ≡ Fine
 unfolding judge

@@ -37,18 +37,22 @@ same-fault (byte p h a b) (byte q i c d) e = ap ChildByte e
 same-fault (long p h a b) (long q i c d) e = ap ChildTooLong e
 same-fault {text} (byte p h a b) (long q i c d) e =
     let n : endRun 0 (take p text) ≡ nameLimit = subst (λ z. endRun 0 (take z text) ≡ nameLimit) (sym e) d in
-    absurd (true≢false (sym (subst (λ z. nameByte (getD text z 0) ≡ true) (sym e) c) ∙ subst (λ z. right z (getD text p 0) ≡ false) n b))
+    absurd (true≢false (sym (subst (λ z. nameByte (getD text z 0) ≡ true) (sym e) c)
+    ∙ subst (λ z. right z (getD text p 0) ≡ false) n b))
 same-fault {text} (long p h a b) (byte q i c d) e =
     let n : endRun 0 (take q text) ≡ nameLimit = subst (λ z. endRun 0 (take z text) ≡ nameLimit) e b in
-    absurd (true≢false (sym (subst (λ z. nameByte (getD text z 0) ≡ true) e a) ∙ subst (λ z. right z (getD text q 0) ≡ false) n d))
+    absurd (true≢false (sym (subst (λ z. nameByte (getD text z 0) ≡ true) e a)
+    ∙ subst (λ z. right z (getD text q 0) ≡ false) n d))
 
 pub refused-unique : (text : Bytes) {f g : Refusal} → Refused text f → Refused text g → f ≡ g
 refused-unique text (too-long l) (too-long m) = refl
 refused-unique text (too-long l) (first m q) = absurd (omega arith)
 refused-unique text (first l p) (too-long m) = absurd (omega arith)
-refused-unique text (first {f} l p) (first {f = g} m q) = same-fault (p .fault) (q .fault) (omega (arith, p .least g (q .fault), q .least f (p .fault)))
+refused-unique text (first {f} l p) (first {f = g} m q) =
+    same-fault (p .fault) (q .fault) (omega (arith, p .least g (q .fault), q .least f (p .fault)))
 
 -- a text that is names, and not too long, is not refused
-pub words-not-refused : (text : Bytes) (ws : List Bytes) {f : Refusal} → length text ≤ childrenLimit → Words text ws → Refused text f → ⊥
+pub words-not-refused : (text : Bytes) (ws : List Bytes) {f : Refusal} → length text ≤ childrenLimit → Words text ws →
+    Refused text f → ⊥
 words-not-refused text ws l h (too-long m) = omega arith
 words-not-refused text ws l h (first m q) = words-clear text ws h _ (q .fault)

@@ -42,32 +42,38 @@ solid-drop : (n : ℕ) (s : Bytes) → solid (drop n s) ≤ solid s
 unfolding solid
 solid-drop zero s = omega arith
 solid-drop (suc n) [] = omega arith
-solid-drop (suc n) (b ∷ s) = let h = solid-drop n s in split (space b) (λ e. rw e (omega arith)) (λ e. rw e (omega arith))
+solid-drop (suc n) (b ∷ s) = let h = solid-drop n s in
+    split (space b) (λ e. rw e (omega arith)) (λ e. rw e (omega arith))
 
 -- one byte fewer where that is no white space
-solid-next : (text : Bytes) (a : ℕ) → a < length text → space (getD text a 0) ≡ false → solid (drop a text) ≡ suc (solid (drop (suc a) text))
+solid-next : (text : Bytes) (a : ℕ) → a < length text → space (getD text a 0) ≡ false →
+    solid (drop a text) ≡ suc (solid (drop (suc a) text))
 unfolding solid
 solid-next text a h e = rw (drop-cons text a 0 h, e)
 
 -- further on there are fewer
-solid-less : (text : Bytes) (a c : ℕ) → a < c → a < length text → space (getD text a 0) ≡ false → solid (drop c text) < solid (drop a text)
+solid-less : (text : Bytes) (a c : ℕ) → a < c → a < length text → space (getD text a 0) ≡ false →
+    solid (drop c text) < solid (drop a text)
 solid-less text a c l h e =
     let k : suc a + (c - suc a) ≡ c = omega arith in
-    let d : drop (c - suc a) (drop (suc a) text) ≡ drop c text = drop-drop (c - suc a) (suc a) text ∙ ap (λ n. drop n text) k in
+    let d : drop (c - suc a) (drop (suc a) text) ≡ drop c text = drop-drop (c - suc a) (suc a) text
+    ∙ ap (λ n. drop n text) k in
     let m = solid-drop (c - suc a) (drop (suc a) text) in
     let f : solid (drop (c - suc a) (drop (suc a) text)) ≡ solid (drop c text) = ap solid d in
     let g = solid-next text a h e in
     omega arith
 
 -- a name that stands at a starts there, with a byte that is no white space
-name-here : (text w : Bytes) (a e : ℕ) → Name w → take (e - a) (drop a text) ≡ w → a ≤ e → e ≤ length text → (a < length text) × (space (getD text a 0) ≡ false)
+name-here : (text w : Bytes) (a e : ℕ) → Name w → take (e - a) (drop a text) ≡ w → a ≤ e → e ≤ length text →
+    (a < length text) × (space (getD text a 0) ≡ false)
 name-here text [] a e n h l m = absurd (n .starts)
 name-here text (b ∷ w) a e n h l m =
     let i : length (take (e - a) (drop a text)) ≡ suc (length w) = ap length h in
     let j = length-take (e - a) (drop a text) in
     let k = length-drop a text in
     let p : 0 < e - a = omega arith in
-    let q : getD text a 0 ≡ b = ap (λ z. getD text z 0) (omega arith) ∙ sym (getD-drop a text 0 0) ∙ sym (getD-take (e - a) (drop a text) 0 0 p) ∙ ap (λ z. getD z 0 0) h in
+    let q : getD text a 0 ≡ b = ap (λ z. getD text z 0) (omega arith) ∙ sym (getD-drop a text 0 0)
+    ∙ sym (getD-take (e - a) (drop a text) 0 0 p) ∙ ap (λ z. getD z 0 0) h in
     (omega arith, rw q (name-space b (start-name b (n .starts))))
 
 -- the place of a name is one only
@@ -81,15 +87,19 @@ place-unique text w ws a e c f n p h l m q i j k = go (decLt a c) (decLt c a)
     same =
         let x = cut-total [] (drop a text) in
         let y = cut-total [] (drop c text) in
-        let z : total (cut [] (drop a text)) ≡ total (cut [] (drop c text)) = ap total (cut-correct p ∙ sym (cut-correct q)) in
+        let z : total (cut [] (drop a text)) ≡ total (cut [] (drop c text)) =
+        ap total (cut-correct p ∙ sym (cut-correct q)) in
         omega arith
 
     size : (a e : ℕ) → take (e - a) (drop a text) ≡ w → a ≤ e → e ≤ length text → e ≡ a + length w
-    size a e h l m = let i = ap length h in let j = length-take-le (e - a) (drop a text) (omega (arith, length-drop a text)) in omega arith
+    size a e h l m = let i = ap length h in let j =
+        length-take-le (e - a) (drop a text) (omega (arith, length-drop a text)) in omega arith
 
     go : Dec (a < c) → Dec (c < a) → (a ≡ c) × (e ≡ f)
-    go (yes o) d = let x = name-here text w a e n h l m in let y = solid-less text a c o (x .0) (x .1) in absurd (omega (arith, same))
-    go (no o) (yes d) = let x = name-here text w c f n i j k in let y = solid-less text c a d (x .0) (x .1) in absurd (omega (arith, same))
+    go (yes o) d = let x = name-here text w a e n h l m in let y = solid-less text a c o (x .0) (x .1) in
+        absurd (omega (arith, same))
+    go (no o) (yes d) = let x = name-here text w c f n i j k in let y = solid-less text c a d (x .0) (x .1) in
+        absurd (omega (arith, same))
     go (no o) (no d) = let x : a ≡ c = omega (arith, o, d) in (x, omega (arith, x, size a e h l m, size c f i j k))
 
 name-some : (w : Bytes) → Name w → 1 ≤ length w
@@ -101,7 +111,8 @@ pub words-few : {text : Bytes} {ws : List Bytes} → Words text ws → length ws
 words-few none = omega arith
 words-few (gap e h) = let k = words-few h in omega arith
 words-few (last {w} n) = let k = name-some w n in omega arith
-words-few (name {w} b {s} n e h) = let k = words-few h in let m = name-some w n in omega (arith, length-append w (b ∷ s))
+words-few (name {w} b {s} n e h) = let k = words-few h in let m = name-some w n in
+    omega (arith, length-append w (b ∷ s))
 
 -- each word is a name
 pub words-names : {text : Bytes} {ws : List Bytes} → Words text ws → Each Name ws

@@ -18,11 +18,13 @@ use Rattle.children.specs.declared.Checked.the-variants.{Fine, Refused a
 use Rattle.children.proofs.Judging.{stop-fine}
 
 module _ (text : Bytes) (i : ℕ) (h : i < length text) where
-  pub cut-space : (acc : Bytes) → space (getD text i 0) ≡ true → cut acc (drop i text) ≡ flush acc (cut [] (drop (i + 1) text))
+  pub cut-space : (acc : Bytes) → space (getD text i 0) ≡ true →
+      cut acc (drop i text) ≡ flush acc (cut [] (drop (i + 1) text))
   unfolding cut
   cut-space acc e = rw (at-next text i h, e)
 
-  pub cut-byte : (acc : Bytes) → space (getD text i 0) ≡ false → cut acc (drop i text) ≡ cut (acc ++ (getD text i 0 ∷ [])) (drop (i + 1) text)
+  pub cut-byte : (acc : Bytes) → space (getD text i 0) ≡ false →
+      cut acc (drop i text) ≡ cut (acc ++ (getD text i 0 ∷ [])) (drop (i + 1) text)
   unfolding cut
   cut-byte acc e = rw (at-next text i h, e)
 
@@ -36,9 +38,11 @@ module _ (text : Bytes) (i : ℕ) (h : i < length text) where
       let k : i + 1 - a ≡ suc (i - a) = omega arith in
       let m : i - a < length (drop a text) = omega (arith, length-drop a text) in
       let j : a + (i - a) ≡ i = omega arith in
-      ap (λ n. take n (drop a text)) k ∙ take-suc (drop a text) (i - a) 0 m ∙ ap (λ b. take (i - a) (drop a text) ++ (b ∷ [])) (getD-drop a text (i - a) 0 ∙ ap (λ n. getD text n 0) j)
+      ap (λ n. take n (drop a text)) k ∙ take-suc (drop a text) (i - a) 0 m
+      ∙ ap (λ b. take (i - a) (drop a text) ++ (b ∷ [])) (getD-drop a text (i - a) 0 ∙ ap (λ n. getD text n 0) j)
 
-pub cut-end : (text : Bytes) (i : ℕ) (acc : Bytes) → length text ≤ i → cut acc (drop i text) ≡ flush acc (cut [] (drop i text))
+pub cut-end : (text : Bytes) (i : ℕ) (acc : Bytes) → length text ≤ i →
+    cut acc (drop i text) ≡ flush acc (cut [] (drop i text))
 unfolding cut
 cut-end text i acc h = rw (at-end text i h)
 
@@ -64,7 +68,8 @@ judge-place n i j (b ∷ s) e =
     (λ h. split (right n b)
     (λ r. split (eqb n nameLimit)
     (λ q. let f : Stop (ChildTooLong i) ≡ Fine = rw (h, r, q) at e in absurd (stop-fine _ f))
-    (λ q. let f : judge (suc n) (suc i) s ≡ Fine = rw (h, r, q) at e in rw (h, r, q) (judge-place (suc n) (suc i) (suc j) s f)))
+    (λ q. let f : judge (suc n) (suc i) s ≡ Fine = rw (h, r, q) at e in
+    rw (h, r, q) (judge-place (suc n) (suc i) (suc j) s f)))
     (λ r. let f : Stop (ChildByte i) ≡ Fine = rw (h, r) at e in absurd (stop-fine _ f)))
 
 -- no fault from i on, behind some bytes of a name
@@ -77,7 +82,8 @@ module _ (text : Bytes) (i : ℕ) (h : i < length text) where
 
   pub sound-space : space (getD text i 0) ≡ true → Sound text i → Sound text (i + 1)
   unfolding judge
-  sound-space e f = let g : judge 0 1 (drop (i + 1) text) ≡ Fine = rw (at-next text i h, e) at f in judge-place 0 1 0 (drop (i + 1) text) g
+  sound-space e f = let g : judge 0 1 (drop (i + 1) text) ≡ Fine = rw (at-next text i h, e) at f in
+      judge-place 0 1 0 (drop (i + 1) text) g
 
   -- one byte of a name further
   pub within-byte : space (getD text i 0) ≡ false → Within text i → Within text (i + 1)
@@ -88,13 +94,15 @@ module _ (text : Bytes) (i : ℕ) (h : i < length text) where
       split (right n b)
       (λ r. split (eqb n nameLimit)
       (λ q. let f : Stop (ChildTooLong 0) ≡ Fine = rw (at-next text i h, e, r, q) at (w .1) in absurd (stop-fine _ f))
-      (λ q. let f : judge (suc n) 1 (drop (i + 1) text) ≡ Fine = rw (at-next text i h, e, r, q) at (w .1) in (suc n, judge-place (suc n) 1 0 (drop (i + 1) text) f)))
+      (λ q. let f : judge (suc n) 1 (drop (i + 1) text) ≡ Fine = rw (at-next text i h, e, r, q) at (w .1) in
+      (suc n, judge-place (suc n) 1 0 (drop (i + 1) text) f)))
       (λ r. let f : Stop (ChildByte 0) ≡ Fine = rw (at-next text i h, e, r) at (w .1) in absurd (stop-fine _ f))
 
   -- white space after a name
   pub within-stop : space (getD text i 0) ≡ true → Within text i → Sound text i
   unfolding judge
-  within-stop e w = rw (at-next text i h, e) (let g : judge 0 1 (drop (i + 1) text) ≡ Fine = rw (at-next text i h, e) at (w .1) in g)
+  within-stop e w = rw (at-next text i h, e) (let g : judge 0 1 (drop (i + 1) text) ≡ Fine =
+      rw (at-next text i h, e) at (w .1) in g)
 
 pub sound-end : (text : Bytes) (i : ℕ) → length text ≤ i → Sound text i
 unfolding judge

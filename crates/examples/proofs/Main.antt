@@ -76,19 +76,30 @@ verdict-says : (t : Tree Bytes) (o : Option (ℕ × ℕ × ℕ)) → Search.Says
 verdict-says t none h = h
 verdict-says t (some c) h = h
 
-list-says : (t : Tree Bytes) → ¬ Ambiguous t → (l : ListCase) (r : Checked) → judge 0 0 (l .children) ≡ r → listOn t (l .children) r ≡ claim l → ListHolds t l
-list-says t clear l Fine e h = (cut [] (l .children), fine-words (l .children) e, answered h (walk-correct t clear (cut [] (l .children))))
+list-says : (t : Tree Bytes) → ¬ Ambiguous t → (l : ListCase) (r : Checked) → judge 0 0 (l .children) ≡ r →
+    listOn t (l .children) r ≡ claim l → ListHolds t l
+list-says t clear l Fine e h = (
+  cut [] (l .children),
+  fine-words (l .children) e,
+  answered h (walk-correct t clear (cut [] (l .children))),
+)
   where
-    answered : {r s : Answer} → list r ≡ list s → Says t (cut [] (l .children)) (r .matched) (r .slots) → Says t (cut [] (l .children)) (s .matched) (s .slots)
-    answered {r} {s} e h = let f : r ≡ s = cc in subst (λ (a : Answer). Says t (cut [] (l .children)) (a .matched) (a .slots)) f h
+    answered : {r s : Answer} → list r ≡ list s → Says t (cut [] (l .children)) (r .matched) (r .slots) →
+        Says t (cut [] (l .children)) (s .matched) (s .slots)
+    answered {r} {s} e h = let f : r ≡ s = cc in
+        subst (λ (a : Answer). Says t (cut [] (l .children)) (a .matched) (a .slots)) f h
 list-says t clear l (Bad f) e h = absurd (let z : _≡_ {A = ℕ} 0 1 = cc in omega arith)
 
-lists-clear : (t : Tree Bytes) → ¬ Ambiguous t → (ls : List ListCase) → listsOn t none ls ≡ map claim ls → Each (ListHolds t) ls
+lists-clear : (t : Tree Bytes) → ¬ Ambiguous t → (ls : List ListCase) → listsOn t none ls ≡ map claim ls →
+    Each (ListHolds t) ls
 lists-clear t clear [] e = tt
-lists-clear t clear (l ∷ ls) e =
-    (list-says t clear l (judge 0 0 (l .children)) refl (head-eq-of-cons-eq e), lists-clear t clear ls (tail-eq-of-cons-eq e))
+lists-clear t clear (l ∷ ls) e = (
+  list-says t clear l (judge 0 0 (l .children)) refl (head-eq-of-cons-eq e),
+  lists-clear t clear ls (tail-eq-of-cons-eq e),
+)
 
-lists-say : (t : Tree Bytes) (o : Option (ℕ × ℕ × ℕ)) → Search.Says sameBytes t o → (ls : List ListCase) → listsOn t o ls ≡ map claim ls → Each (ListHolds t) ls
+lists-say : (t : Tree Bytes) (o : Option (ℕ × ℕ × ℕ)) → Search.Says sameBytes t o → (ls : List ListCase) →
+    listsOn t o ls ≡ map claim ls → Each (ListHolds t) ls
 lists-say t none h ls e = lists-clear t h ls e
 lists-say t (some c) h [] e = tt
 lists-say t (some c) h (l ∷ ls) e = absurd (nil≢cons e)
@@ -97,13 +108,20 @@ case-read : (c : ModelCase) (v : Judge.Verdict) → Judged (c .text) v → outco
 case-read c (read t) (was-read r) e =
     let h = search-correct sameBytes t same-correct in
     let v : verdictOf (search sameBytes t) ≡ c .verdict = cc in
-    let l : listsOn t (search sameBytes t) (c .lists) ≡ map claim (c .lists) = cc in
-    (t, r, subst (VerdictOn t) v (verdict-says t (search sameBytes t) h), lists-say t (search sameBytes t) h (c .lists) l)
+    let l : listsOn t (search sameBytes t) (c .lists) ≡ map claim (c .lists) = cc in (
+      t,
+      r,
+      subst (VerdictOn t) v (verdict-says t (search sameBytes t) h),
+      lists-say t (search sameBytes t) h (c .lists) l,
+    )
 case-read c (refused f) (was-refused r) e = absurd (let z : _≡_ {A = ℕ} 0 1 = cc in omega arith)
 
 all-hold : (cs : List ModelCase) → map computed cs ≡ map claimed cs → Each Holds cs
 all-hold [] e = tt
-all-hold (c ∷ cs) e = (case-read c (verdict (c .text)) (judged (c .text)) (head-eq-of-cons-eq e), all-hold cs (tail-eq-of-cons-eq e))
+all-hold (c ∷ cs) e = (
+  case-read c (verdict (c .text)) (judged (c .text)) (head-eq-of-cons-eq e),
+  all-hold cs (tail-eq-of-cons-eq e),
+)
 
 -- all cases at once
 pub cases-hold : Each Holds cases

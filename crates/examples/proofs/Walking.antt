@@ -48,7 +48,8 @@ module _ (t : Tree Bytes) where
   abbrev pub walk : ℕ → List ℕ → List Bytes → Answer
   walk n u [] = cond (ends (slotted t) (ending 0 u)) (answer (Allowed n) u) (answer (Short n (held u)) u)
   walk n u (a ∷ ws) =
-      onward (answer (Stopped (suc n) (held u)) u) (λ x. walk (suc n) (u ++ (x ∷ [])) ws) (step-to sameBytes t (ending 0 u) a)
+      onward (answer (Stopped (suc n) (held u)) u) (λ x. walk (suc n) (u ++ (x ∷ [])) ws)
+      (step-to sameBytes t (ending 0 u) a)
 
   abbrev Right : List Bytes → Answer → Type 0
   Right ws r = Says t ws (r .matched) (r .slots)
@@ -69,14 +70,16 @@ module _ (t : Tree Bytes) where
 
     -- the children behind those that are placed, all of them being `all`
     module _ (all : List Bytes) where
-      stops : (before : List Bytes) (u : List ℕ) (a : Bytes) (ws : List Bytes) → all ≡ before ++ (a ∷ ws) → Marks t before u →
+      stops : (before : List Bytes) (u : List ℕ) (a : Bytes) (ws : List Bytes) → all ≡ before ++ (a ∷ ws) →
+          Marks t before u →
           ((x : ℕ) → Step t (ending 0 u) a x → ⊥) → Right all (answer (Stopped (suc (length before)) (held u)) u)
       stops before u a ws e m h =
           let l = ap length e ∙ length-append before (a ∷ ws) in
           let n : length before ≡ suc (length before) - 1 = omega arith in
           let f : before ≡ take (suc (length before) - 1) all =
           sym (ap (take (suc (length before) - 1)) e ∙ take-at before (a ∷ ws) (suc (length before) - 1) n) in
-          let k : length (before ++ (a ∷ [])) ≡ suc (length before) = let i = length-append before (a ∷ []) in omega arith in
+          let k : length (before ++ (a ∷ [])) ≡ suc (length before) = let i = length-append before (a ∷ []) in
+          omega arith in
           let g : take (suc (length before)) all ≡ before ++ (a ∷ []) =
           ap (take (suc (length before))) (e ∙ sym (append-assoc before (a ∷ []) ws))
           ∙ take-at (before ++ (a ∷ [])) ws (suc (length before)) k in (
@@ -84,7 +87,8 @@ module _ (t : Tree Bytes) where
             (subst (λ w. Marks t w u) f m, (refl, λ b. marks-stop t clear before u a m h (subst (Begins t) g b))),
           )
 
-      walk-from : (before : List Bytes) (u : List ℕ) (ws : List Bytes) → all ≡ before ++ ws → Marks t before u → Right all (walk (length before) u ws)
+      walk-from : (before : List Bytes) (u : List ℕ) (ws : List Bytes) → all ≡ before ++ ws → Marks t before u →
+          Right all (walk (length before) u ws)
       walk-from before u [] e m =
           let f : all ≡ before = e ∙ append-nil before in
           subst (λ (l : List Bytes). Right all (walk (length l) u [])) f
@@ -94,9 +98,11 @@ module _ (t : Tree Bytes) where
           (λ x. walk (suc (length before)) (u ++ (x ∷ [])) ws) (step-to sameBytes t (ending 0 u) a)
           (step-correct sameBytes t same-correct (ending 0 u) a) (stops before u a ws e m)
           (λ x h.
-          let n : length (before ++ (a ∷ [])) ≡ suc (length before) = let i = length-append before (a ∷ []) in omega arith in
+          let n : length (before ++ (a ∷ [])) ≡ suc (length before) = let i = length-append before (a ∷ []) in
+          omega arith in
           subst (λ (k : ℕ). Right all (walk k (u ++ (x ∷ [])) ws)) n
-          (walk-from (before ++ (a ∷ [])) (u ++ (x ∷ [])) ws (e ∙ sym (append-assoc before (a ∷ []) ws)) (marks-step t before u a x m h)))
+          (walk-from (before ++ (a ∷ [])) (u ++ (x ∷ [])) ws (e
+          ∙ sym (append-assoc before (a ∷ []) ws)) (marks-step t before u a x m h)))
 
     -- what the walk says of the whole list is what the meaning says
     pub walk-correct : (ws : List Bytes) → Says t ws (walk 0 [] ws .matched) (walk 0 [] ws .slots)

@@ -51,8 +51,15 @@ use Rattle.telling.specs.Inner.Forward.{Forward}
 use Rattle.exports.specs.Inner.Fitting.{Fits}
 
 -- figures that are small
-fits : (number a b c : ℕ) → number < 256 → a ≤ childrenLimit → b ≤ childrenLimit → c ≤ slotLimit → Fits record { number = number; a = a; b = b; c = c }
-fits number a b c h i j k = record { number-fits = omega arith; a-fits = omega arith; b-fits = omega arith; c-fits = omega arith }
+fits : (number a b c : ℕ) → number < 256 → a ≤ childrenLimit → b ≤ childrenLimit → c ≤ slotLimit →
+    Fits record { number = number; a = a; b = b; c = c }
+fits number a b c h i j k = record {
+  number-fits = omega arith;
+  a-fits = omega arith;
+  b-fits = omega arith;
+  c-fits =
+      omega arith;
+}
 
 -- a refusal with a number alone
 numbered : (n : ℕ) → n < 256 → Fits record { number = n; a = 0; b = 0; c = 0 }
@@ -95,7 +102,8 @@ write-fault-fits : {s room : Bytes} {f : Refusal} → WriteFault s room f → Fi
 write-fault-fits (of-table h) = fault-fits h
 write-fault-fits (fault-18 h) = numbered 18 (omega arith)
 
-child-fault-fits : {text : Bytes} {f : Refusal} → length text ≤ childrenLimit → Children.Fault text f → Fits (figuresOf f)
+child-fault-fits : {text : Bytes} {f : Refusal} → length text ≤ childrenLimit → Children.Fault text f →
+    Fits (figuresOf f)
 child-fault-fits h (Children.byte q l s r) = fits 22 q 0 0 (omega arith) (omega arith) (omega arith) (omega arith)
 child-fault-fits h (Children.long q l s r) = fits 23 q 0 0 (omega arith) (omega arith) (omega arith) (omega arith)
 
@@ -111,7 +119,8 @@ not-passed-fits (ambiguous {p = p} {x = x} {y = y} t l c) = clash-fits t (l .law
 text-fault-fits : {text : Bytes} {f : Refusal} → length text ≤ textLimit → Faults.Fault text f → Fits (figuresOf f)
 text-fault-fits h (Faults.unknown q l u) = fits 3 q 0 0 (omega arith) (omega arith) (omega arith) (omega arith)
 text-fault-fits h (Faults.wrong q l b n) = fits 4 q 0 0 (omega arith) (omega arith) (omega arith) (omega arith)
-text-fault-fits {text} h (Faults.ends b n) = fits 4 (length text) 0 0 (omega arith) (omega arith) (omega arith) (omega arith)
+text-fault-fits {text} h (Faults.ends b n) =
+    fits 4 (length text) 0 0 (omega arith) (omega arith) (omega arith) (omega arith)
 text-fault-fits h (Faults.long q l b n) = fits 5 q 0 0 (omega arith) (omega arith) (omega arith) (omega arith)
 text-fault-fits h (Faults.deep q l b n) = fits 6 q 0 0 (omega arith) (omega arith) (omega arith) (omega arith)
 text-fault-fits h (Faults.slots q l b n) = fits 7 q 0 0 (omega arith) (omega arith) (omega arith) (omega arith)
@@ -130,7 +139,8 @@ read-fits text room room′ (Table n) h =
 read-fits text room room′ (Unread f) h = read-refused-fits (h .0)
 
 pub written-fits : (s room room′ : Bytes) (r : Written) → WriteAnswer s room r room′ → Fits (writtenFigures r)
-written-fits s room room′ (Text n) h = let l = h .1 .lawful .text in let e = h .3 in fits 0 n 0 0 (omega arith) (omega arith) (omega arith) (omega arith)
+written-fits s room room′ (Text n) h = let l = h .1 .lawful .text in let e = h .3 in
+    fits 0 n 0 0 (omega arith) (omega arith) (omega arith) (omega arith)
 written-fits s room room′ (Unwritten f) h = write-fault-fits (h .0 .met)
 
 pub verdict-fits : (s : Bytes) (r : Verdict) → JudgeAnswer s r → Fits (verdictFigures r)
@@ -158,7 +168,8 @@ module _ {s text : Bytes} {r : Matched} {u : List ℕ} (m : Answers s text r u) 
   names-few-enough : length (m .names) ≤ childrenLimit
   names-few-enough = let a = words-few (m .words) in let b = m .short in omega arith
 
-pub matched-fits : (table text before after : Bytes) (r : Matched) → MatchAnswer table text before r after → Fits (matchedFigures r)
+pub matched-fits : (table text before after : Bytes) (r : Matched) → MatchAnswer table text before r after →
+    Fits (matchedFigures r)
 matched-fits table text before after (Allowed n) h =
     let m = h .answers in
     let l = names-few-enough m in

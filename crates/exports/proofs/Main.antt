@@ -1,4 +1,5 @@
--- What users of the C interface rely on: a number tells its figures, and any two numbers that a function permits are the
+-- What users of the C interface rely on: a number tells its figures, and any two numbers that a function permits are
+-- the
 -- same. Assumes nothing.
 use mathlib.Core.Path.{_≡_, sym, ap, _∙_}
 use Prim.Native.Nat.{ℕ}
@@ -21,11 +22,13 @@ use Rattle.model.specs.declared.Figures.{Figures}
 use Rattle.exports.specs.Inner.Fitting.{Fits}
 
 -- figures that fit are told apart by their number
-pub packed-unique : (f g : Figures) → Fits f → Fits g → packed f ≡ packed g → (f .number ≡ g .number) × (f .a ≡ g .a) × (f .b ≡ g .b) × (f .c ≡ g .c)
+pub packed-unique : (f g : Figures) → Fits f → Fits g → packed f ≡ packed g →
+    (f .number ≡ g .number) × (f .a ≡ g .a) × (f .b ≡ g .b) × (f .c ≡ g .c)
 packed-unique f g h k e = (omega arith, omega arith, omega arith, omega arith)
 
 -- one answer has one number
-same-number : {A : Type 0} {P Q : A → Type 0} {figures : A → Figures} {n m : ℕ} (a : Told P figures n) (b : Told Q figures m) → a .answer ≡ b .answer → n ≡ m
+same-number : {A : Type 0} {P Q : A → Type 0} {figures : A →
+    Figures} {n m : ℕ} (a : Told P figures n) (b : Told Q figures m) → a .answer ≡ b .answer → n ≡ m
 same-number {figures = figures} a b e = a .number ∙ ap (λ r. packed (figures r)) e ∙ sym (b .number)
 
 pub slots-read-unique :
@@ -43,12 +46,15 @@ slots-write-unique table room x y n m a b =
     (same-number a b (e .0), e .1)
 
 pub slots-judge-unique :
-    (table : Bytes) (n m : ℕ) → Told (JudgeAnswer table) verdictFigures n → Told (JudgeAnswer table) verdictFigures m → n ≡ m
+    (table : Bytes) (n m : ℕ) → Told (JudgeAnswer table) verdictFigures n → Told (JudgeAnswer table) verdictFigures m →
+    n ≡ m
 slots-judge-unique table n m a b = same-number a b (judge-unique table (a .answer) (b .answer) (a .holds) (b .holds))
 
 pub slots-count-unique :
-    (table : Bytes) (n m : ℕ) → Told (CountAnswer table) countedFigures n → Told (CountAnswer table) countedFigures m → n ≡ m
-slots-count-unique table n m a b = same-number a b (count-answer-unique table (a .answer) (b .answer) (a .holds) (b .holds))
+    (table : Bytes) (n m : ℕ) → Told (CountAnswer table) countedFigures n → Told (CountAnswer table) countedFigures m →
+    n ≡ m
+slots-count-unique table n m a b =
+    same-number a b (count-answer-unique table (a .answer) (b .answer) (a .holds) (b .holds))
 
 pub slots-match-unique :
     (table children room x y : Bytes) (n m : ℕ) → Told (λ r. MatchAnswer table children room r x) matchedFigures n →
@@ -60,9 +66,11 @@ slots-match-unique table children room x y n m a b =
 pub slots-step-unique :
     (table : Bytes) (s : ℕ) (name : Bytes) (n m : ℕ) → Told (StepAnswer table s name) steppedFigures n →
     Told (StepAnswer table s name) steppedFigures m → n ≡ m
-slots-step-unique table s name n m a b = same-number a b (step-answer-unique table s name (a .answer) (b .answer) (a .holds) (b .holds))
+slots-step-unique table s name n m a b =
+    same-number a b (step-answer-unique table s name (a .answer) (b .answer) (a .holds) (b .holds))
 
 pub slots-part-unique :
     (table children : Bytes) (n m : ℕ) → Told (PartWhere table children) partFigures n →
     Told (PartWhere table children) partFigures m → n ≡ m
-slots-part-unique table children n m a b = same-number a b (part-unique table children (a .answer) (b .answer) (a .holds) (b .holds))
+slots-part-unique table children n m a b =
+    same-number a b (part-unique table children (a .answer) (b .answer) (a .holds) (b .holds))

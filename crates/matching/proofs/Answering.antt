@@ -53,37 +53,55 @@ module _ (t : Tree Bytes) (clear : ¬ Ambiguous t) (children before : List ℕ) 
     -- all are placed: whether the list can end at the slot held decides
     all-says : n ≡ length ws → (b : Bool) → b ≡ ends (slotted t) (s .0) → Says t ws (endOf b n s) (p .slots)
     all-says e true f =
-        let m : Marks t ws (p .slots) = subst (λ v. Marks t v (p .slots)) (ap (λ j. take j ws) e ∙ take-length ws) (p .marks) in
+        let m : Marks t ws (p .slots) =
+        subst (λ v. Marks t v (p .slots)) (ap (λ j. take j ws) e ∙ take-length ws) (p .marks) in
         let d : Ends t (ending 0 (p .slots)) = subst (Ends t) (sym (p .held)) (ends-correct t (s .0) .0 (sym f)) in
         let w = marks-allowed t ws (p .slots) m d in
         (e, (names-correct t ws .1 (p .slots, w, m .names), (w, m)))
     all-says e false f =
-        let m : Marks t ws (p .slots) = subst (λ v. Marks t v (p .slots)) (ap (λ j. take j ws) e ∙ take-length ws) (p .marks) in
-        (e, (m, (p .held, marks-short t clear ws (p .slots) m (λ d. true≢false (sym (ends-correct t (s .0) .1 (subst (Ends t) (p .held) d)) ∙ sym f)))))
+        let m : Marks t ws (p .slots) =
+        subst (λ v. Marks t v (p .slots)) (ap (λ j. take j ws) e ∙ take-length ws) (p .marks) in (
+          e,
+          (
+            m,
+            (
+              p .held,
+              marks-short t clear ws (p .slots) m
+                  (λ d. true≢false (sym (ends-correct t (s .0) .1 (subst (Ends t) (p .held) d)) ∙ sym f)),
+            ),
+          ),
+        )
 
     -- child n + 1 leads nowhere
-    stop-says : n < length ws → ((x : ℕ) → Step t (s .0) (getD ws n []) x → ⊥) → Says t ws (Stopped (n + 1) s) (p .slots)
+    stop-says : n < length ws → ((x : ℕ) → Step t (s .0) (getD ws n []) x → ⊥) →
+        Says t ws (Stopped (n + 1) s) (p .slots)
     stop-says l none =
         let k : n + 1 - 1 ≡ n = omega arith in
-        let f : take (n + 1) ws ≡ take n ws ++ (getD ws n [] ∷ []) = ap (λ j. take j ws) (add-one n) ∙ take-suc ws n [] l in (
+        let f : take (n + 1) ws ≡ take n ws ++ (getD ws n [] ∷ []) = ap (λ j. take j ws) (add-one n)
+        ∙ take-suc ws n [] l in (
           (omega arith, omega arith),
           (
             subst (λ j. Marks t (take j ws) (p .slots)) (sym k) (p .marks),
             (
               p .held,
-              λ b. marks-stop t clear (take n ws) (p .slots) (getD ws n []) (p .marks) (λ x st. none x (subst (λ q. Step t q (getD ws n []) x) (p .held) st)) (subst (Begins t) f b),
+              λ b. marks-stop t clear (take n ws) (p .slots) (getD ws n []) (p .marks)
+                  (λ x st. none x (subst (λ q. Step t q (getD ws n []) x) (p .held) st)) (subst (Begins t) f b),
             ),
           ),
         )
 
-    walk-says : (all b : Bool) (a e : ℕ) → EndsAt t children ws n (s .0) a e all → b ≡ ends (slotted t) (s .0) → Says t ws (answerBy all b n s) (p .slots)
+    walk-says : (all b : Bool) (a e : ℕ) → EndsAt t children ws n (s .0) a e all → b ≡ ends (slotted t) (s .0) →
+        Says t ws (answerBy all b n s) (p .slots)
     walk-says true b a e h f = all-says h b f
     walk-says false b a e h f = stop-says (h .0) (h .1 .0)
 
 -- what a walk over the children of a passed model answers
-module _ (table children before : List ℕ) (t : Tree Bytes) (passed : Passed table t) (short : length children ≤ childrenLimit) (words : Words children (cut [] children)) (w : Walk) (after : List ℕ) (walked : Walked t children before w after) (b : Bool) (right : b ≡ ends (slotted t) (w .held .0)) where
+module _ (table children before : List ℕ) (t : Tree Bytes) (passed : Passed table t)
+    (short : length children ≤ childrenLimit) (words : Words children (cut [] children)) (w : Walk) (after : List ℕ)
+    (walked : Walked t children before w after) (b : Bool) (right : b ≡ ends (slotted t) (w .held .0)) where
   pub walked-says : Says t (cut [] children) (answerOf b w) (walked .placing .slots)
-  walked-says = walk-says t (passed .clear) children before (w .placed) (w .held) after (walked .placing) (w .all) b (w .start) (w .end) (walked .ends) right
+  walked-says = walk-says t (passed .clear) children before (w .placed) (w .held) after (walked .placing) (w .all) b
+      (w .start) (w .end) (walked .ends) right
 
   pub walk-answers : Answers table children (answerOf b w) (walked .placing .slots)
   walk-answers = record {
@@ -113,14 +131,16 @@ module _ (table children before : List ℕ) (t : Tree Bytes) (passed : Passed ta
           omega (arith, walked .placing .within)
 
 -- an answer that is no refusal, as matching gives it
-pub match-placed : (table children before : List ℕ) (r : Matched) (after : List ℕ) → Placed table children before r after → MatchAnswer table children before r after
+pub match-placed : (table children before : List ℕ) (r : Matched) (after : List ℕ) →
+    Placed table children before r after → MatchAnswer table children before r after
 match-placed table children before (IsAllowed n) after p = p
 match-placed table children before (Stopped k s) after p = p
 match-placed table children before (Short n s) after p = p
 match-placed table children before (Stop f) after p = absurd (p .answers .says)
 
 -- ---- the children, checked
-pub checked-fine : (text : Bytes) (r : Checked) → CheckAnswer text r → r ≡ Fine → (length text ≤ childrenLimit) × Words text (cut [] text)
+pub checked-fine : (text : Bytes) (r : Checked) → CheckAnswer text r → r ≡ Fine →
+    (length text ≤ childrenLimit) × Words text (cut [] text)
 checked-fine text r h e = subst (CheckAnswer text) e h
 
 pub checked-refused : (text : Bytes) (r : Checked) (f : Refusal) → CheckAnswer text r → r ≡ BadText f → Refused text f
@@ -130,5 +150,7 @@ pub checked-sound : (text : Bytes) → Words text (cut [] text) → Sound text 0
 checked-sound text h = words-fine 0 h
 
 -- no more children are placed than there are bytes
-pub walked-few : (t : Tree Bytes) (children before : List ℕ) (w : Walk) (after : List ℕ) → length children ≤ childrenLimit → Words children (cut [] children) → Walked t children before w after → w .placed ≤ childrenLimit
+pub walked-few : (t : Tree Bytes) (children before : List ℕ) (w : Walk) (after : List ℕ) →
+    length children ≤ childrenLimit → Words children (cut [] children) → Walked t children before w after →
+    w .placed ≤ childrenLimit
 walked-few t children before w after l h k = let f = words-few h in let m = k .placing .within in omega arith

@@ -29,7 +29,8 @@ module _ (table : Bytes) (t : Tree Bytes) (passed : Passed table t) where
   steps-run : {p q : ℕ} {ws : List Bytes} → Steps table p ws q → Run t p ws q
   steps-run done = here
   steps-run (step {p} {x = x} {a = a} s r) =
-      move (subst (λ u. Step u p a (x .0)) (passed-unique table (s .model) t (s .passed) passed) (s .says)) (steps-run r)
+      move (subst (λ u. Step u p a (x .0)) (passed-unique table (s .model) t (s .passed) passed) (s .says))
+      (steps-run r)
 
   run-steps : {p q : ℕ} {ws : List Bytes} → p ≤ length (leaves t) → Run t p ws q → Steps table p ws q
   unfolding slot
@@ -37,15 +38,20 @@ module _ (table : Bytes) (t : Tree Bytes) (passed : Passed table t) where
   run-steps l (move {p} {x} {a = a} s r) =
       step {x = slot x} record { model = t; passed = passed; within = l; says = s } (run-steps (step-within p a x s) r)
 
-  -- steps from the start hold a slot exactly where some allowed numbered list, with these names at its beginning, has it there
+  -- steps from the start hold a slot exactly where some allowed numbered list, with these names at its beginning, has
+  -- it there
   pub steps-held : (ws : List Bytes) (q : ℕ) → Steps table 0 ws q ↔ Held t ws q
   steps-held ws q = (λ s. run-held t ws q .0 (steps-run s), λ h. run-steps (omega arith) (run-held t ws q .1 h))
 
   -- so they hold one exactly when the names begin some allowed list
   pub steps-begin : (ws : List Bytes) → ((q : ℕ) × Steps table 0 ws q) ↔ Begins t ws
-  steps-begin ws =
-      (λ h. run-begins t ws .0 (h .0, steps-run (h .1)), λ b. let h = run-begins t ws .1 b in (h .0, run-steps (omega arith) (h .1)))
+  steps-begin ws = (
+    λ h. run-begins t ws .0 (h .0, steps-run (h .1)),
+    λ b. let h = run-begins t ws .1 b in
+        (h .0, run-steps (omega arith) (h .1)),
+  )
 
   -- and every allowed numbered list that begins so, however marked, has that slot there
-  pub steps-agree : (ws : List Bytes) (q : ℕ) → Steps table 0 ws q → (u v : List ℕ) → Numbered t (u ++ v) → map (named t) u ≡ ws → ending 0 u ≡ q
+  pub steps-agree : (ws : List Bytes) (q : ℕ) → Steps table 0 ws q → (u v : List ℕ) → Numbered t (u ++ v) →
+      map (named t) u ≡ ws → ending 0 u ≡ q
   steps-agree ws q s = held-unique t (passed .clear) ws q (steps-held ws q .0 s)

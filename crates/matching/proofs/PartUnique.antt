@@ -21,7 +21,8 @@ use Rattle.naming.proofs.Main.{SamePart, part-same}
 use Rattle.placing.specs.Passed.{Passed, NotPassed}
 use Rattle.placing.proofs.Main.{passed-unique, passed-free}
 use Rattle.matching.specs.Matches.{Says, Answers}
-use Rattle.matching.specs.Parts.{PartWhere, refused, bad-children, allowed, stopped, short, short-at-start, Is, PartAnswer}
+use Rattle.matching.specs.Parts.{PartWhere, refused, bad-children, allowed, stopped, short, short-at-start, Is}
+use Rattle.matching.specs.Parts.{PartAnswer}
 use Rattle.matching.specs.declared.Matched.{Matched}
 use Rattle.matching.specs.declared.Matched.the-variants.{Allowed, Stopped, Short, Refused as Stop}
 use Rattle.matching.specs.declared.Part.{Part}
@@ -43,7 +44,8 @@ Here children t ws (Stop f) p = ⊥
 data View (table children : Bytes) (p : Part) : Type 0 where
   by-model : {f : Refusal} → NotPassed table f → p ≡ AtEnd → View table children p
   by-text : {f : Refusal} (t : Tree Bytes) → Passed table t → Refused children f → p ≡ AtEnd → View table children p
-  by-answer : (r : Matched) (u : List ℕ) (m : Answers table children r u) → Here children (m .model) (m .names) r p → View table children p
+  by-answer : (r : Matched) (u : List ℕ) (m : Answers table children r u) → Here children (m .model) (m .names) r p →
+      View table children p
 
 view : {table children : Bytes} {p : Part} → PartWhere table children p → View table children p
 view (refused h) = by-model h refl
@@ -52,20 +54,26 @@ view (allowed {n} {u} m) = by-answer (Allowed n) u m refl
 view (stopped {k} {s} {u} {a} {e} m c) = by-answer (Stopped k s) u m (a, e, c, refl)
 view (short-at-start {n} {s} {u} m z) = by-answer (Short n s) u m ((λ h. refl), λ h. absurd (omega (arith, h, z)))
 view (short {n} {s} {u} {a} m z e) =
-    by-answer (Short n s) u m ((λ h. absurd (omega (arith, h, z))), λ h. ap (λ b. OfTable b (b + length (named (m .model) (s .0)))) e)
+    by-answer (Short n s) u m (
+      (λ h. absurd (omega (arith, h, z))),
+      λ h. ap (λ b. OfTable b (b + length (named (m .model) (s .0)))) e,
+    )
 
 module _ (table children : Bytes) where
   -- one answer has one part
-  here-unique : (t : Tree Bytes) (ws : List Bytes) (r : Matched) (u : List ℕ) → Words children ws → Says t ws r u → (p q : Part) → Here children t ws r p → Here children t ws r q → p ≡ q
+  here-unique : (t : Tree Bytes) (ws : List Bytes) (r : Matched) (u : List ℕ) → Words children ws → Says t ws r u →
+      (p q : Part) → Here children t ws r p → Here children t ws r q → p ≡ q
   here-unique t ws (Allowed n) u w s p q h k = h ∙ sym k
   here-unique t ws (Stopped k x) u w s p q h j =
       let n = each-at Name ws (k - 1) [] (words-names w) (omega (arith, s .0 .0, s .0 .1)) in
       let e = place-unique children (getD ws (k - 1) []) (drop (k - 1) ws) (h .0) (h .1) (j .0) (j .1) n
-      (h .2 .onward) (h .2 .here) (h .2 .order) (h .2 .within) (j .2 .onward) (j .2 .here) (j .2 .order) (j .2 .within) in
+      (h .2 .onward) (h .2 .here) (h .2 .order) (h .2 .within) (j .2 .onward) (j .2 .here) (j .2 .order)
+      (j .2 .within) in
       h .3 ∙ ap₂ OfChildren (e .0) (e .1) ∙ sym (j .3)
   here-unique t ws (Short n x) u w s p q h k = go (x .0) (h .0) (h .1) (k .0) (k .1)
     where
-      go : (z : ℕ) → (z ≡ 0 → p ≡ AtEnd) → (1 ≤ z → p ≡ slotPart t (x .0)) → (z ≡ 0 → q ≡ AtEnd) → (1 ≤ z → q ≡ slotPart t (x .0)) → p ≡ q
+      go : (z : ℕ) → (z ≡ 0 → p ≡ AtEnd) → (1 ≤ z → p ≡ slotPart t (x .0)) → (z ≡ 0 → q ≡ AtEnd) →
+          (1 ≤ z → q ≡ slotPart t (x .0)) → p ≡ q
       go zero a b c d = a refl ∙ sym (c refl)
       go (suc z) a b c d = b (omega arith) ∙ sym (d (omega arith))
   here-unique t ws (Stop f) u w s p q h k = absurd h
@@ -76,15 +84,18 @@ module _ (table children : Bytes) where
   view-unique p q (by-model h e) (by-answer r u m k) = absurd (passed-free table (m .model) (m .passed) h)
   view-unique p q (by-text t h r e) (by-model k f) = e ∙ sym f
   view-unique p q (by-text t h r e) (by-text u k s f) = e ∙ sym f
-  view-unique p q (by-text t h r e) (by-answer s u m k) = absurd (words-not-refused children (m .names) (m .short) (m .words) r)
+  view-unique p q (by-text t h r e) (by-answer s u m k) =
+      absurd (words-not-refused children (m .names) (m .short) (m .words) r)
   view-unique p q (by-answer r u m h) (by-model k f) = absurd (passed-free table (m .model) (m .passed) k)
-  view-unique p q (by-answer r u m h) (by-text t k s f) = absurd (words-not-refused children (m .names) (m .short) (m .words) s)
+  view-unique p q (by-answer r u m h) (by-text t k s f) =
+      absurd (words-not-refused children (m .names) (m .short) (m .words) s)
   view-unique p q (by-answer r u m h) (by-answer s v n k) =
       let e = answers-unique table children s r v u n m .0 in
       let t = passed-unique table (n .model) (m .model) (n .passed) (m .passed) in
       let w = words-unique children (n .names) (m .names) (n .words) (m .words) in
       here-unique (m .model) (m .names) r u (m .words) (m .says) p q h
-      (subst (λ z. Here children z (m .names) r q) t (subst (λ z. Here children (n .model) z r q) w (subst (λ z. Here children (n .model) (n .names) z q) e k)))
+      (subst (λ z. Here children z (m .names) r q) t
+      (subst (λ z. Here children (n .model) z r q) w (subst (λ z. Here children (n .model) (n .names) z q) e k)))
 
   -- any two places that the name part may have are the same
   pub part-unique : (p q : Part) → PartWhere table children p → PartWhere table children q → p ≡ q
@@ -96,7 +107,9 @@ is-same (OfChildren a e) table children r q h k = part-same children r q a (e - 
 is-same (OfTable a e) table children r q h k = part-same table r q a (e - a) h k
 is-same AtEnd table children r q h k = part-same children r q (length (now children)) 0 h k
 
-pub part-answer-unique : (table children r q : RefT (List ℕ)) → PartAnswer table children r → PartAnswer table children q → SamePart r q
+pub part-answer-unique : (table children r q : RefT (List ℕ)) → PartAnswer table children r →
+    PartAnswer table children q → SamePart r q
 part-answer-unique table children r q h k =
     is-same (h .place) table children r q (h .is)
-    (subst (λ p. Is p table children q) (part-unique (now table) (now children) (k .place) (h .place) (k .says) (h .says)) (k .is))
+    (subst (λ p. Is p table children q)
+    (part-unique (now table) (now children) (k .place) (h .place) (k .says) (h .says)) (k .is))

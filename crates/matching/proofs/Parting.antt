@@ -26,7 +26,9 @@ use Rattle.matching.specs.declared.Part.{Part}
 use Rattle.matching.specs.declared.Part.the-variants.{OfChildren, OfTable, AtEnd}
 use Rattle.matching.proofs.Answering.{walked-says, answer-stopped, answer-allowed, answer-short}
 
-module _ (table children before : List ℕ) (t : Tree Bytes) (passed : Passed table t) (fits : length children ≤ childrenLimit) (words : Words children (cut [] children)) (w : Walk) (after : List ℕ) (walked : Walked t children before w after) (b : Bool) (right : b ≡ ends (slotted t) (w .held .0)) where
+module _ (table children before : List ℕ) (t : Tree Bytes) (passed : Passed table t)
+    (fits : length children ≤ childrenLimit) (words : Words children (cut [] children)) (w : Walk) (after : List ℕ)
+    (walked : Walked t children before w after) (b : Bool) (right : b ≡ ends (slotted t) (w .held .0)) where
   -- the answer on the walk, under another name
   answered : (r : Matched) → answerOf b w ≡ r → Answers table children r (walked .placing .slots)
   answered r e = record {
@@ -35,13 +37,15 @@ module _ (table children before : List ℕ) (t : Tree Bytes) (passed : Passed ta
     short = fits;
     names = cut [] children;
     words = words;
-    says = subst (λ q. Says t (cut [] children) q (walked .placing .slots)) e (walked-says table children before t passed fits words w after walked b right);
+    says = subst (λ q. Says t (cut [] children) q (walked .placing .slots)) e
+        (walked-says table children before t passed fits words w after walked b right);
   }
 
   pub part-stopped : w .all ≡ false → PartWhere table children (OfChildren (w .start) (w .end))
   unfolding answered cut
   part-stopped e =
-      let h = subst (EndsAt t children (cut [] children) (w .placed) (w .held .0) (w .start) (w .end)) e (walked .ends) in
+      let h = subst (EndsAt t children (cut [] children) (w .placed) (w .held .0) (w .start) (w .end)) e
+      (walked .ends) in
       stopped (answered (Stopped (w .placed + 1) (w .held)) (answer-stopped b w e)) (h .1 .1)
 
   pub part-allowed : w .all ≡ true → b ≡ true → PartWhere table children AtEnd
@@ -50,7 +54,8 @@ module _ (table children before : List ℕ) (t : Tree Bytes) (passed : Passed ta
   pub part-start : w .all ≡ true → b ≡ false → w .held .0 ≡ 0 → PartWhere table children AtEnd
   part-start e f z = short-at-start (answered (Short (w .placed) (w .held)) (answer-short b w e f)) z
 
-  pub part-short : w .all ≡ true → b ≡ false → 1 ≤ w .held .0 → (r : Span) → SpanOf t (w .held .0) r → PartWhere table children (OfTable (r .start) (r .end))
+  pub part-short : w .all ≡ true → b ≡ false → 1 ≤ w .held .0 → (r : Span) → SpanOf t (w .held .0) r →
+      PartWhere table children (OfTable (r .start) (r .end))
   unfolding answered
   part-short e f z r i =
       subst (λ k. PartWhere table children (OfTable (r .start) k)) (sym (i .end))
@@ -69,12 +74,15 @@ part-in (bad-children t p h) = tt
 part-in (allowed h) = tt
 part-in (stopped m c) = (c .order, c .within)
 part-in (short-at-start m z) = tt
-part-in {table} (short {s = s} m z e) = let h = slot-within table (m .model) (m .passed .loads) (s .0) in (omega arith, omega (arith, h, e))
+part-in {table} (short {s = s} m z e) = let h = slot-within table (m .model) (m .passed .loads) (s .0) in
+    (omega arith, omega (arith, h, e))
 
-pub part-children : (table children : Bytes) (p : Part) (a e : ℕ) → PartWhere table children p → p ≡ OfChildren a e → (a ≤ e) × (e ≤ length children)
+pub part-children : (table children : Bytes) (p : Part) (a e : ℕ) → PartWhere table children p → p ≡ OfChildren a e →
+    (a ≤ e) × (e ≤ length children)
 unfolding Within
 part-children table children p a e h i = subst (Within table children) i (part-in h)
 
-pub part-table : (table children : Bytes) (p : Part) (a e : ℕ) → PartWhere table children p → p ≡ OfTable a e → (a ≤ e) × (e ≤ length table)
+pub part-table : (table children : Bytes) (p : Part) (a e : ℕ) → PartWhere table children p → p ≡ OfTable a e →
+    (a ≤ e) × (e ≤ length table)
 unfolding Within
 part-table table children p a e h i = subst (Within table children) i (part-in h)

@@ -21,7 +21,8 @@ use Rattle.placing.specs.Passed.{Passed, NotPassed}
 use Rattle.matching.specs.declared.Matched.{Matched}
 use Rattle.matching.specs.declared.Matched.the-variants.{Allowed as IsAllowed, Stopped, Short, Refused as Stop}
 
--- in figures: 0 allowed and the number of children; 1 stopped and the child, 2 short and the number of children, both with
+-- in figures: 0 allowed and the number of children; 1 stopped and the child, 2 short and the number of children, both
+-- with
 -- the slot held; or the refusal
 abbrev pub matchedFigures : Matched → Figures
 matchedFigures (IsAllowed n) = figures 0 n 0 0
@@ -63,7 +64,8 @@ pub record Answers (table children : Bytes) (r : Matched) (u : List ℕ) : Type 
 pub data MatchRefused (table children : Bytes) (room : ℕ) : Refusal → Type 0 where
   by-model : {f : Refusal} → NotPassed table f → MatchRefused table children room f
   by-room : (t : Tree Bytes) → Passed table t → room < slotRoom → MatchRefused table children room SlotRoom
-  by-children : {f : Refusal} (t : Tree Bytes) → Passed table t → slotRoom ≤ room → Refused children f → MatchRefused table children room f
+  by-children : {f : Refusal} (t : Tree Bytes) → Passed table t → slotRoom ≤ room → Refused children f →
+      MatchRefused table children room f
 
 -- an answer that is no refusal: a byte, the slot, for each child placed, and the rest of the room as it was
 pub record Placed (table children before : List ℕ) (r : Matched) (after : List ℕ) : Type 0 where

@@ -20,7 +20,8 @@ use Rattle.matching.specs.declared.Matched.the-variants.{Allowed, Stoppe
 use Rattle.matching.specs.declared.Part.{Part}
 use Rattle.matching.specs.declared.Part.the-variants.{OfChildren, OfTable, AtEnd}
 
--- in figures: 0 a part of the children, 1 of the table, with its start and its length; 2 the empty part at the children's end
+-- in figures: 0 a part of the children, 1 of the table, with its start and its length; 2 the empty part at the
+-- children's end
 abbrev pub partFigures : Part → Figures
 partFigures (OfChildren a e) = figures 0 a (e - a) 0
 partFigures (OfTable a e) = figures 1 a (e - a) 0

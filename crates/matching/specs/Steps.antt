@@ -42,4 +42,5 @@ StepAnswer table s a (Stop f) = StepRefused table s f
 -- steps one after the other, each from the slot before, lead from p to q
 pub data Steps (table : Bytes) : ℕ → List Bytes → ℕ → Type 0 where
   done : {p : ℕ} → Steps table p [] p
-  step : {p q : ℕ} {x : Slot} {a : Bytes} {ws : List Bytes} → StepAnswer table p a (Next x) → Steps table (x .0) ws q → Steps table p (a ∷ ws) q
+  step : {p q : ℕ} {x : Slot} {a : Bytes} {ws : List Bytes} → StepAnswer table p a (Next x) → Steps table (x .0) ws q →
+      Steps table p (a ∷ ws) q

@@ -44,7 +44,8 @@ pub ending-snoc : (p q : ℕ) (u : List ℕ) → ending p (u ++ (q ∷ [])) ≡ 
 ending-snoc p q [] = refl
 ending-snoc p q (x ∷ u) = ending-snoc x q u
 
-chain-next : {F : ℕ → ℕ → Type 0} {L : ℕ → Type 0} (y : ℕ) (u : List ℕ) (x : ℕ) (v : List ℕ) → Chain F L y (u ++ (x ∷ v)) → F (ending y u) x
+chain-next : {F : ℕ → ℕ → Type 0} {L : ℕ → Type 0} (y : ℕ) (u : List ℕ) (x : ℕ) (v : List ℕ) →
+    Chain F L y (u ++ (x ∷ v)) → F (ending y u) x
 chain-next y [] x v (step f c) = f
 chain-next y (z ∷ u) x v (step f c) = chain-next z u x v c
 
@@ -63,7 +64,8 @@ module _ {A : Type 0} (t : Tree A) where
   pub to-walk : (w : List ℕ) → Numbered t w → Walk (slotted t) w
   to-walk w h = lang→walk (slotted t) (to-lang w h)
 
-  pub exchanged : (p : ℕ) (a b c d : List ℕ) → Numbered t (a ++ (p ∷ b)) → Numbered t (c ++ (p ∷ d)) → Numbered t (a ++ (p ∷ d))
+  pub exchanged : (p : ℕ) (a b c d : List ℕ) → Numbered t (a ++ (p ∷ b)) → Numbered t (c ++ (p ∷ d)) →
+      Numbered t (a ++ (p ∷ d))
   exchanged p a b c d h k = from-lang _ (exchange (slotted t) (slots-linear 1 t) p a b c d (to-lang _ h) (to-lang _ k))
 
   -- ---- what can come next is a slot
@@ -95,10 +97,20 @@ module _ {A : Type 0} (t : Tree A) where
       record { beginning = []; after = h .0; at = refl; allowed = from-lang _ (h .1) }
   goes-shown (suc p) x f =
       let h = follow-shown (slotted t) (suc p) x .0 f in
-      record { beginning = h .0 ++ (suc p ∷ []); after = h .1; at = ending-snoc 0 (suc p) (h .0); allowed = rw append-assoc (from-lang _ (h .2)) }
+      record {
+        beginning = h .0 ++ (suc p ∷ []);
+        after = h .1;
+        at = ending-snoc 0 (suc p) (h .0);
+        allowed =
+            rw append-assoc (from-lang _ (h .2));
+      }
 
   pub next-goes : (p x : ℕ) → Next t p x ↔ Goes (slotted t) p x
-  next-goes p x = (λ h. subst (λ q. Goes (slotted t) q x) (h .at) (walk-goes (h .beginning) x (h .after) (to-walk _ (h .allowed))), goes-shown p x)
+  next-goes p x = (
+    λ h. subst (λ q. Goes (slotted t) q x) (h .at)
+        (walk-goes (h .beginning) x (h .after) (to-walk _ (h .allowed))),
+    goes-shown p x,
+  )
 
   -- the same by the test
   pub next-correct : (p x : ℕ) → (next (slotted t) p x ≡ true) ↔ Next t p x
@@ -116,7 +128,10 @@ module _ {A : Type 0} (t : Tree A) where
       record { slots = h .0 ++ (suc s ∷ []); at = ending-snoc 0 (suc s) (h .0); allowed = from-lang _ (h .1) }
 
   pub ends-stops : (s : ℕ) → Ends t s ↔ Stops (slotted t) s
-  ends-stops s = (λ h. subst (Stops (slotted t)) (h .at) (walk-stops (h .slots) (to-walk _ (h .allowed))), stops-shown s)
+  ends-stops s = (
+    λ h. subst (Stops (slotted t)) (h .at) (walk-stops (h .slots) (to-walk _ (h .allowed))),
+    stops-shown s,
+  )
 
   pub ends-correct : (s : ℕ) → (ends (slotted t) s ≡ true) ↔ Ends t s
   ends-correct s = iff-trans (stops-test (slotted t) s) (ends-stops s .1, ends-stops s .0)
@@ -132,13 +147,25 @@ module _ {A : Type 0} (t : Tree A) where
   next-both (suc p) x y f g =
       let h = follow-shown (slotted t) (suc p) x .0 f in
       let k = follow-shown (slotted t) (suc p) y .0 g in
-      let e = exchanged (suc p) (h .0) (x ∷ h .1) (k .0) (y ∷ k .1) (from-lang _ (h .2)) (from-lang _ (k .2)) in
-      (h .0 ++ (suc p ∷ []), h .1, k .1, ending-snoc 0 (suc p) (h .0), rw append-assoc (from-lang _ (h .2)), rw append-assoc e)
+      let e = exchanged (suc p) (h .0) (x ∷ h .1) (k .0) (y ∷ k .1) (from-lang _ (h .2)) (from-lang _ (k .2)) in (
+        h .0 ++ (suc p ∷ []),
+        h .1,
+        k .1,
+        ending-snoc 0 (suc p) (h .0),
+        rw append-assoc (from-lang _ (h .2)),
+        rw append-assoc e,
+      )
 
   clash-from : (p x y : ℕ) → Next t p x × Next t p y × (named t x ≡ named t y) × (x < y) → Clash t p x y
   clash-from p x y h =
       let b = next-both p x y (next-goes p x .0 (h .0)) (next-goes p y .0 (h .1)) in
-      record { u = b .0; at = b .3; parts = record { after-x = b .1; after-y = b .2; one = b .4; two = b .5; same = h .2 }; order = h .3 }
+      record {
+        u = b .0;
+        at = b .3;
+        parts =
+            record { after-x = b .1; after-y = b .2; one = b .4; two = b .5; same = h .2 };
+        order = h .3;
+      }
 
   clash-to : (p x y : ℕ) → Clash t p x y → Next t p x × Next t p y × (named t x ≡ named t y) × (x < y)
   clash-to p x y c = (
@@ -154,27 +181,51 @@ module _ {A : Type 0} (t : Tree A) where
 
   -- a model is ambiguous exactly where it has a clash
   parts-turned : (u : List ℕ) (x y : ℕ) → Parts t u x y → Parts t u y x
-  parts-turned u x y c = record { after-x = c .after-y; after-y = c .after-x; one = c .two; two = c .one; same = sym (c .same) }
+  parts-turned u x y c = record {
+    after-x = c .after-y;
+    after-y = c .after-x;
+    one = c .two;
+    two = c .one;
+    same =
+        sym (c .same);
+  }
 
   ambiguous-to : Ambiguous t → (p x y : ℕ) × Clash t p x y
   ambiguous-to a = go (decLt (a .x) (a .y))
     where
       go : Dec (a .x < a .y) → (p x y : ℕ) × Clash t p x y
       go (yes h) = (ending 0 (a .u), a .x, a .y, record { u = a .u; at = refl; parts = a .parts; order = h })
-      go (no h) = (ending 0 (a .u), a .y, a .x, record { u = a .u; at = refl; parts = parts-turned (a .u) (a .x) (a .y) (a .parts); order = omega (arith, h, a .differ) })
+      go (no h) = (
+        ending 0 (a .u),
+        a .y,
+        a .x,
+        record {
+          u = a .u;
+          at = refl;
+          parts = parts-turned (a .u) (a .x) (a .y) (a .parts);
+          order =
+              omega (arith, h, a .differ);
+        },
+      )
 
   ambiguous-from : (p x y : ℕ) × Clash t p x y → Ambiguous t
-  ambiguous-from s = let c = s .3 in record { u = c .u; x = s .1; y = s .2; parts = c .parts; differ = omega (arith, c .order) }
+  ambiguous-from s = let c = s .3 in
+      record { u = c .u; x = s .1; y = s .2; parts = c .parts; differ = omega (arith, c .order) }
 
   pub ambiguous-clash : Ambiguous t ↔ ((p x y : ℕ) × Clash t p x y)
   ambiguous-clash = (ambiguous-to, ambiguous-from)
 
   -- the clash that is shown is one only
-  pub first-clash-unique : (p x y p′ x′ y′ : ℕ) → FirstClash t p x y → FirstClash t p′ x′ y′ → (p ≡ p′) × (x ≡ x′) × (y ≡ y′)
+  pub first-clash-unique : (p x y p′ x′ y′ : ℕ) → FirstClash t p x y → FirstClash t p′ x′ y′ →
+      (p ≡ p′) × (x ≡ x′) × (y ≡ y′)
   first-clash-unique p x y p′ x′ y′ a b =
       let e : p ≡ p′ = omega (arith, a .least-p p′ x′ y′ (b .clash), b .least-p p x y (a .clash)) in
       let c = subst (λ q. Clash t q x′ y′) (sym e) (b .clash) in
       let d = subst (λ q. Clash t q x y) e (a .clash) in
       let f : x ≡ x′ = omega (arith, a .least-x x′ y′ c, b .least-x x y d) in
-      let g : y ≡ y′ = omega (arith, a .least-y y′ (subst (λ z. Clash t p z y′) (sym f) c), b .least-y y (subst (λ z. Clash t p′ z y) f d)) in
+      let g : y ≡ y′ = omega (
+        arith,
+        a .least-y y′ (subst (λ z. Clash t p z y′) (sym f) c),
+        b .least-y y (subst (λ z. Clash t p′ z y) f d),
+      ) in
       (e, f, g)

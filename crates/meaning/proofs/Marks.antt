@@ -1,4 +1,5 @@
--- How many lists a mark joins, by its two tests: whether it may join none, and whether it may join two. Assumes nothing.
+-- How many lists a mark joins, by its two tests: whether it may join none, and whether it may join two. Assumes
+-- nothing.
 use mathlib.Core.Bool.{true, false≢true}
 use mathlib.Core.List.{List, append-nil}
 use mathlib.Core.Path.{_≡_, refl, subst}
@@ -49,6 +50,7 @@ module _ {A : Type 0} where
   pub once : {P : List A → Type 0} (m : Mark) {w : List A} → P w → Marked m P w
   once {P} m {w} p = (1, times-one m, subst (Joined P 1) (append-nil w) (more p none))
 
-  pub joined-map : {P Q : List A → Type 0} → ((w : List A) → P w → Q w) → {k : ℕ} {w : List A} → Joined P k w → Joined Q k w
+  pub joined-map : {P Q : List A → Type 0} → ((w : List A) → P w → Q w) → {k : ℕ} {w : List A} → Joined P k w →
+      Joined Q k w
   joined-map f none = none
   joined-map f (more p j) = more (f _ p) (joined-map f j)

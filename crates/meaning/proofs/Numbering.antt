@@ -1,4 +1,5 @@
--- Slots: each stands once, and a list of names is allowed exactly where it is the names of an allowed numbered list. Assumes nothing.
+-- Slots: each stands once, and a list of names is allowed exactly where it is the names of an allowed numbered list.
+-- Assumes nothing.
 use mathlib.Core.List.{List, _++_, map}
 use mathlib.Core.Logic.{inl, inr, _↔_}
 use mathlib.Core.Path.{_≡_, sym, ap, ap₂, subst, _∙_}
@@ -7,7 +8,8 @@ use native.Mathlib.Omega.{arith}
 use native.Mathlib.Nat.{add-zero, add-assoc}
 use lib.ListN.{length, getD, length-append, List·getD-append}
 use lib.Seq.{getD-append-add}
-use Rattle.meaning.specs.Trees.{Tree, leaf, sequence, choice, Members, last, and, leaves, all-leaves, relabel, all-relabel}
+use Rattle.meaning.specs.Trees.{Tree, leaf, sequence, choice, Members, last, and, leaves, all-leaves, relabel}
+use Rattle.meaning.specs.Trees.{all-relabel}
 use Rattle.meaning.specs.Lists.{Allowed}
 use Rattle.meaning.specs.Slots.{slots, all-slots, Numbered, first-leaf, named}
 use Rattle.meaning.specs.Inner.Expressions.{expr, seqs, alts}
@@ -48,15 +50,30 @@ module _ {A : Type 0} where
     pub slots-linear : (k : ℕ) (t : Tree A) → Linear (expr (slots k t))
     slots-linear k (leaf m a) = tt
     slots-linear k (sequence m ts) = seqs-linear k ts
-    slots-linear k (choice m t ts) = (slots-linear k t, alts-linear _ ts, λ x i j. let h = slots-within k t x i in let l = alts-within _ ts x j in omega arith)
+    slots-linear k (choice m t ts) = (
+      slots-linear k t,
+      alts-linear _ ts,
+      λ x i j. let h = slots-within k t x i in let l = alts-within _ ts x j in
+          omega arith,
+    )
 
     seqs-linear : (k : ℕ) (ts : Members A) → Linear (seqs (all-slots k ts))
     seqs-linear k (last t) = slots-linear k t
-    seqs-linear k (and t ts) = (slots-linear k t, seqs-linear _ ts, λ x i j. let h = slots-within k t x i in let l = seqs-within _ ts x j in omega arith)
+    seqs-linear k (and t ts) = (
+      slots-linear k t,
+      seqs-linear _ ts,
+      λ x i j. let h = slots-within k t x i in let l =
+          seqs-within _ ts x j in omega arith,
+    )
 
     alts-linear : (k : ℕ) (ts : Members A) → Linear (alts (all-slots k ts))
     alts-linear k (last t) = slots-linear k t
-    alts-linear k (and t ts) = (slots-linear k t, alts-linear _ ts, λ x i j. let h = slots-within k t x i in let l = alts-within _ ts x j in omega arith)
+    alts-linear k (and t ts) = (
+      slots-linear k t,
+      alts-linear _ ts,
+      λ x i j. let h = slots-within k t x i in let l =
+          alts-within _ ts x j in omega arith,
+    )
 
   -- ---- the names of slots
   -- f gives the slots from k on the names l
@@ -67,21 +84,28 @@ module _ {A : Type 0} where
   names-left f k l m d h i b = h i (omega (arith, length-append l m)) ∙ List·getD-append l m d i b
 
   names-right : (f : ℕ → A) (k : ℕ) (l m : List A) (d : A) → Names f k (l ++ m) d → Names f (k + length l) m d
-  names-right f k l m d h i b = ap f (add-assoc k (length l) i) ∙ h (length l + i) (omega (arith, length-append l m)) ∙ getD-append-add l m i d
+  names-right f k l m d h i b = ap f (add-assoc k (length l) i) ∙ h (length l + i) (omega (arith, length-append l m))
+      ∙ getD-append-add l m i d
 
   mutual
     slots-named : (f : ℕ → A) (d : A) (k : ℕ) (t : Tree A) → Names f k (leaves t) d → relabel f (slots k t) ≡ t
     slots-named f d k (leaf m a) h = ap (leaf m) (sym (ap f (add-zero k)) ∙ h 0 (omega arith))
     slots-named f d k (sequence m ts) h = ap (sequence m) (all-slots-named f d k ts h)
-    slots-named f d k (choice m t ts) h = ap₂ (choice m) (slots-named f d k t (names-left f k (leaves t) (all-leaves ts) d h)) (all-slots-named f d _ ts (names-right f k (leaves t) (all-leaves ts) d h))
+    slots-named f d k (choice m t ts) h =
+        ap₂ (choice m) (slots-named f d k t (names-left f k (leaves t) (all-leaves ts) d h))
+        (all-slots-named f d _ ts (names-right f k (leaves t) (all-leaves ts) d h))
 
-    all-slots-named : (f : ℕ → A) (d : A) (k : ℕ) (ts : Members A) → Names f k (all-leaves ts) d → all-relabel f (all-slots k ts) ≡ ts
+    all-slots-named : (f : ℕ → A) (d : A) (k : ℕ) (ts : Members A) → Names f k (all-leaves ts) d →
+        all-relabel f (all-slots k ts) ≡ ts
     all-slots-named f d k (last t) h = ap last (slots-named f d k t h)
-    all-slots-named f d k (and t ts) h = ap₂ and (slots-named f d k t (names-left f k (leaves t) (all-leaves ts) d h)) (all-slots-named f d _ ts (names-right f k (leaves t) (all-leaves ts) d h))
+    all-slots-named f d k (and t ts) h =
+        ap₂ and (slots-named f d k t (names-left f k (leaves t) (all-leaves ts) d h))
+        (all-slots-named f d _ ts (names-right f k (leaves t) (all-leaves ts) d h))
 
   -- the slots of a model, with their names in their place, are the model
   pub renamed : (t : Tree A) → relabel (named t) (slots 1 t) ≡ t
   renamed t = slots-named (named t) (first-leaf t) 1 t (λ i b. ap (λ n. getD (leaves t) n (first-leaf t)) (omega arith))
 
   pub names-correct : (t : Tree A) (w : List A) → Allowed t w ↔ ((v : List ℕ) × Numbered t v × (map (named t) v ≡ w))
-  names-correct t w = subst (λ u. Allowed u w ↔ Image (named t) (Numbered t) w) (renamed t) (relabel-correct (named t) (slots 1 t) w)
+  names-correct t w = subst (λ u. Allowed u w ↔ Image (named t) (Numbered t) w) (renamed t)
+      (relabel-correct (named t) (slots 1 t) w)

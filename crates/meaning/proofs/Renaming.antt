@@ -1,10 +1,12 @@
--- Other names for the names of a model change nothing of its slots; where different names stay different, nothing of its clashes. Assumes nothing.
+-- Other names for the names of a model change nothing of its slots; where different names stay different, nothing of
+-- its clashes. Assumes nothing.
 use mathlib.Core.List.{List, [], _∷_, _++_, map}
 use mathlib.Core.Logic.{_↔_}
 use mathlib.Core.Path.{_≡_, refl, sym, ap, ap₂, subst, _∙_}
 use Prim.Native.Nat.{ℕ, zero, suc, _+_, _-_}
 use lib.ListN.{length, getD}
-use Rattle.meaning.specs.Trees.{Tree, leaf, sequence, choice, Members, last, and, leaves, all-leaves, relabel, all-relabel}
+use Rattle.meaning.specs.Trees.{Tree, leaf, sequence, choice, Members, last, and, leaves, all-leaves, relabel}
+use Rattle.meaning.specs.Trees.{all-relabel}
 use Rattle.meaning.specs.Slots.{slots, all-slots, Numbered, first-leaf, all-first-leaf, named}
 use Rattle.meaning.specs.Lists.{Allowed}
 use Rattle.meaning.specs.Clashes.{Ambiguous, Clash, FirstClash}
@@ -16,11 +18,13 @@ module _ {A B : Type 0} (f : A → B) where
     pub leaves-relabel : (t : Tree A) → leaves (relabel f t) ≡ map f (leaves t)
     leaves-relabel (leaf m a) = refl
     leaves-relabel (sequence m ts) = all-leaves-relabel ts
-    leaves-relabel (choice m t ts) = ap₂ _++_ (leaves-relabel t) (all-leaves-relabel ts) ∙ sym (map-append f (leaves t) (all-leaves ts))
+    leaves-relabel (choice m t ts) = ap₂ _++_ (leaves-relabel t) (all-leaves-relabel ts)
+        ∙ sym (map-append f (leaves t) (all-leaves ts))
 
     all-leaves-relabel : (ts : Members A) → all-leaves (all-relabel f ts) ≡ map f (all-leaves ts)
     all-leaves-relabel (last t) = leaves-relabel t
-    all-leaves-relabel (and t ts) = ap₂ _++_ (leaves-relabel t) (all-leaves-relabel ts) ∙ sym (map-append f (leaves t) (all-leaves ts))
+    all-leaves-relabel (and t ts) = ap₂ _++_ (leaves-relabel t) (all-leaves-relabel ts)
+        ∙ sym (map-append f (leaves t) (all-leaves ts))
 
   length-map : (l : List A) → length (map f l) ≡ length l
   length-map [] = refl
@@ -33,11 +37,13 @@ module _ {A B : Type 0} (f : A → B) where
     slots-same : (k : ℕ) (t : Tree A) → slots k (relabel f t) ≡ slots k t
     slots-same k (leaf m a) = refl
     slots-same k (sequence m ts) = ap (sequence m) (all-slots-same k ts)
-    slots-same k (choice m t ts) = ap₂ (choice m) (slots-same k t) (ap (λ n. all-slots (k + n) (all-relabel f ts)) (leaves-count t) ∙ all-slots-same _ ts)
+    slots-same k (choice m t ts) = ap₂ (choice m) (slots-same k t)
+        (ap (λ n. all-slots (k + n) (all-relabel f ts)) (leaves-count t) ∙ all-slots-same _ ts)
 
     all-slots-same : (k : ℕ) (ts : Members A) → all-slots k (all-relabel f ts) ≡ all-slots k ts
     all-slots-same k (last t) = ap last (slots-same k t)
-    all-slots-same k (and t ts) = ap₂ and (slots-same k t) (ap (λ n. all-slots (k + n) (all-relabel f ts)) (leaves-count t) ∙ all-slots-same _ ts)
+    all-slots-same k (and t ts) = ap₂ and (slots-same k t)
+        (ap (λ n. all-slots (k + n) (all-relabel f ts)) (leaves-count t) ∙ all-slots-same _ ts)
 
   mutual
     first-leaf-relabel : (t : Tree A) → first-leaf (relabel f t) ≡ f (first-leaf t)
@@ -63,7 +69,8 @@ module _ {A B : Type 0} (f : A → B) where
     numbered-same w = ap (λ s. Allowed s w) (slots-same 1 t)
 
     pub named-relabel : (s : ℕ) → named (relabel f t) s ≡ f (named t s)
-    named-relabel s = ap₂ (λ l d. getD l (s - 1) d) (leaves-relabel t) (first-leaf-relabel t) ∙ getD-map (leaves t) (s - 1) (first-leaf t)
+    named-relabel s = ap₂ (λ l d. getD l (s - 1) d) (leaves-relabel t) (first-leaf-relabel t)
+        ∙ getD-map (leaves t) (s - 1) (first-leaf t)
 
     -- where f keeps the names of the model apart
     module _ (apart : (x y : ℕ) → f (named t x) ≡ f (named t y) → named t x ≡ named t y) where

@@ -14,7 +14,8 @@ use Rattle.meaning.specs.Clashes.{Ambiguous, Clash, FirstClash}
 use Rattle.meaning.specs.Runs.{Next, Step}
 use Rattle.meaning.specs.Inner.Expressions.{slotted, next}
 use Rattle.meaning.proofs.Tests.{and-correct, ltb-correct}
-use Rattle.meaning.proofs.Clashes.{iff-trans, goes-within, goes-from, next-goes, next-correct, clash-correct, ambiguous-clash}
+use Rattle.meaning.proofs.Clashes.{iff-trans, goes-within, goes-from, next-goes, next-correct, clash-correct}
+use Rattle.meaning.proofs.Clashes.{ambiguous-clash}
 
 -- ---- the least number that passes a test
 -- what was found before, or else n where it passes
@@ -37,13 +38,21 @@ Least P none = (j : ℕ) → P j → ⊥
 Least P (some k) = P k × ((j : ℕ) → P j → k ≤ j)
 
 module _ (f : ℕ → Bool) (P : ℕ → Type 0) (tests : (k : ℕ) → (f k ≡ true) ↔ P k) where
-  below-step : (n : ℕ) (o : Option ℕ) → Least (λ k. (k < n) × P k) o → (b : Bool) → f n ≡ b → Least (λ k. (k < suc n) × P k) (orElse o b n)
+  below-step : (n : ℕ) (o : Option ℕ) → Least (λ k. (k < n) × P k) o → (b : Bool) → f n ≡ b →
+      Least (λ k. (k < suc n) × P k) (orElse o b n)
   below-step n (some k) h b e = (
     (omega (arith, h .0 .0), h .0 .1),
     λ j p. elim (ℕ-discrete j n) [ yes q ↦ omega (arith, h .0 .0, q) | no q ↦ h .1 j (omega (arith, p .0, q), p .1) ],
   )
-  below-step n none h true e = ((omega arith, tests n .0 e), λ j p. elim (ℕ-discrete j n) [ yes q ↦ omega (arith, q) | no q ↦ absurd (h j (omega (arith, p .0, q), p .1)) ])
-  below-step n none h false e = λ j p. elim (ℕ-discrete j n) [ yes q ↦ false≢true (sym e ∙ tests n .1 (rw q at (p .1))) | no q ↦ h j (omega (arith, p .0, q), p .1) ]
+  below-step n none h true e = (
+    (omega arith, tests n .0 e),
+    λ j p. elim (ℕ-discrete j n) [ yes q ↦ omega (arith, q) | no q ↦ absurd (h j (omega (arith, p .0, q), p .1)) ],
+  )
+  below-step n none h false e = λ j p. elim (ℕ-discrete j n) [
+    | yes q ↦ false≢true (sym e
+        ∙ tests n .1 (rw q at (p .1)))
+    | no q ↦ h j (omega (arith, p .0, q), p .1)
+  ]
 
   below : (n : ℕ) → Least (λ k. (k < n) × P k) (least f n)
   below zero = λ j p. omega (arith, p .0)
@@ -111,18 +120,25 @@ module _ {A : Type 0} (same : A → A → Bool) (t : Tree A) where
   module _ (same-correct : (a b : A) → (same a b ≡ true) ↔ (a ≡ b)) where
     clashes-correct : (p x y : ℕ) → (clashes p x y ≡ true) ↔ Clash t p x y
     clashes-correct p x y =
-        let h = and-correct _ _ (next-correct t p x) (and-correct _ _ (next-correct t p y) (and-correct _ _ (same-correct (named t x) (named t y)) (ltb-correct x y))) in
-        let k = clash-correct t p x y in
-        (λ e. let c = h .0 e in k .1 (c .0, c .1 .0, c .1 .1 .0, c .1 .1 .1), λ c. let d = k .0 c in h .1 (d .0, (d .1, (d .2, d .3))))
+        let h = and-correct _ _ (next-correct t p x)
+        (and-correct _ _ (next-correct t p y)
+        (and-correct _ _ (same-correct (named t x) (named t y)) (ltb-correct x y))) in
+        let k = clash-correct t p x y in (
+          λ e. let c = h .0 e in k .1 (c .0, c .1 .0, c .1 .1 .0, c .1 .1 .1),
+          λ c. let d = k .0 c in
+              h .1 (d .0, (d .1, (d .2, d .3))),
+        )
 
     next-bound : (p x : ℕ) → Next t p x → x < bound
     next-bound p x h = goes-within t p x (next-goes t p x .0 h) .1
 
     y-correct : (p x : ℕ) → Least (Clash t p x) (least-y p x)
-    y-correct p x = least-correct (clashes p x) (Clash t p x) (clashes-correct p x) bound (λ y c. next-bound p y (clash-correct t p x y .0 c .1))
+    y-correct p x = least-correct (clashes p x) (Clash t p x) (clashes-correct p x) bound
+        (λ y c. next-bound p y (clash-correct t p x y .0 c .1))
 
     y-found : (p x : ℕ) → (found (least-y p x) ≡ true) ↔ ((y : ℕ) × Clash t p x y)
-    y-found p x = found-correct (clashes p x) (Clash t p x) (clashes-correct p x) bound (λ y c. next-bound p y (clash-correct t p x y .0 c .1))
+    y-found p x = found-correct (clashes p x) (Clash t p x) (clashes-correct p x) bound
+        (λ y c. next-bound p y (clash-correct t p x y .0 c .1))
 
     abbrev AtX : ℕ → ℕ → Type 0
     AtX p x = (y : ℕ) × Clash t p x y
@@ -137,7 +153,8 @@ module _ {A : Type 0} (same : A → A → Bool) (t : Tree A) where
     AtP p = (x : ℕ) × AtX p x
 
     p-bound : (p : ℕ) → AtP p → p < bound
-    p-bound p c = let d = clash-correct t p (c .0) (c .1 .0) .0 (c .1 .1) in goes-from t p (c .0) (next-goes t p (c .0) .0 (d .0))
+    p-bound p c = let d = clash-correct t p (c .0) (c .1 .0) .0 (c .1 .1) in
+        goes-from t p (c .0) (next-goes t p (c .0) .0 (d .0))
 
     x-found : (p : ℕ) → (found (least-x p) ≡ true) ↔ AtP p
     x-found p = found-correct (λ x. found (least-y p x)) (AtX p) (y-found p) bound (x-bound p)
@@ -145,9 +162,16 @@ module _ {A : Type 0} (same : A → A → Bool) (t : Tree A) where
     p-correct : Least AtP least-p
     p-correct = least-correct (λ p. found (least-x p)) AtP x-found bound p-bound
 
-    says-y : (p x : ℕ) → ((q : ℕ) → AtP q → p ≤ q) → AtX p x → ((z : ℕ) → AtX p z → x ≤ z) → (o : Option ℕ) → Least (Clash t p x) o → Says (with-y p x o)
+    says-y : (p x : ℕ) → ((q : ℕ) → AtP q → p ≤ q) → AtX p x → ((z : ℕ) → AtX p z → x ≤ z) → (o : Option ℕ) →
+        Least (Clash t p x) o → Says (with-y p x o)
     says-y p x l c m none h = absurd (h (c .0) (c .1))
-    says-y p x l c m (some y) h = record { clash = h .0; least-p = λ p′ x′ y′ d. l p′ (x′, (y′, d)); least-x = λ x′ y′ d. m x′ (y′, d); least-y = h .1 }
+    says-y p x l c m (some y) h = record {
+      clash = h .0;
+      least-p = λ p′ x′ y′ d. l p′ (x′, (y′, d));
+      least-x =
+          λ x′ y′ d. m x′ (y′, d);
+      least-y = h .1;
+    }
 
     says-x : (p : ℕ) → AtP p → ((q : ℕ) → AtP q → p ≤ q) → (o : Option ℕ) → Least (AtX p) o → Says (with-x p o)
     says-x p c l none h = absurd (h (c .0) (c .1))

@@ -53,6 +53,9 @@ final-correct (alt r s) x = or-correct _ _ (final-correct r x) (final-correct s 
 pub follow-correct : (r : Expr ℕ) (x y : ℕ) → (follow r x y ≡ true) ↔ Follow r x y
 unfolding follow
 follow-correct (symbol a) x y = never
-follow-correct (marked m r) x y = or-correct _ _ (follow-correct r x y) (and-correct _ _ (itself _) (and-correct _ _ (final-correct r x) (first-correct r y)))
-follow-correct (seq r s) x y = or-correct _ _ (follow-correct r x y) (or-correct _ _ (follow-correct s x y) (and-correct _ _ (final-correct r x) (first-correct s y)))
+follow-correct (marked m r) x y =
+    or-correct _ _ (follow-correct r x y)
+    (and-correct _ _ (itself _) (and-correct _ _ (final-correct r x) (first-correct r y)))
+follow-correct (seq r s) x y = or-correct _ _ (follow-correct r x y)
+    (or-correct _ _ (follow-correct s x y) (and-correct _ _ (final-correct r x) (first-correct s y)))
 follow-correct (alt r s) x y = or-correct _ _ (follow-correct r x y) (follow-correct s x y)

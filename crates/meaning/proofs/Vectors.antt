@@ -1,4 +1,5 @@
--- Worked examples of document 01 and document 004, computed by the search: a wrong definition shows here. Assumes nothing.
+-- Worked examples of document 01 and document 004, computed by the search: a wrong definition shows here. Assumes
+-- nothing.
 use mathlib.Core.Option.{none, some}
 use mathlib.Core.Path.{_≡_, refl}
 use Prim.Native.Nat.{ℕ}
@@ -28,7 +29,8 @@ unfolding nullable first final follow
 skipped = refl
 
 -- ((a,b)|(a,c))
-chosen : search eqb (choice Plain (sequence Plain (and (plain 0) (last (plain 1)))) (last (sequence Plain (and (plain 0) (last (plain 2)))))) ≡ some (0, 1, 3)
+chosen : search eqb (choice Plain (sequence Plain (and (plain 0) (last (plain 1))))
+    (last (sequence Plain (and (plain 0) (last (plain 2)))))) ≡ some (0, 1, 3)
 unfolding nullable first final follow
 chosen = refl
 
@@ -48,6 +50,7 @@ unfolding nullable first final follow
 starred = refl
 
 -- (a,(b|c)+,d): deterministic
-between : search eqb (sequence Plain (and (plain 0) (and (choice Plus (plain 1) (last (plain 2))) (last (plain 3))))) ≡ none
+between : search eqb (sequence Plain
+    (and (plain 0) (and (choice Plus (plain 1) (last (plain 2))) (last (plain 3))))) ≡ none
 unfolding nullable first final follow
 between = refl

@@ -9,7 +9,8 @@ use Rattle.model.specs.declared.Mark.{Mark}
 use Rattle.meaning.specs.Lists.{Times, only, Join, join, Either, left, right, Joined, none, more, Marked}
 use Rattle.meaning.specs.Inner.Expressions.{Expr, symbol, marked, seq, alt, repeats}
 use Rattle.meaning.proofs.Marks.{times-none, times-one, times-some, none-skips, more-repeats, joined-map}
-use Rattle.meaning.proofs.Sets.{Lang, Null, First, Final, Follow, In, Apart, Linear, Chain, stop, step, Walk, empty, start}
+use Rattle.meaning.proofs.Sets.{Lang, Null, First, Final, Follow, In, Apart, Linear, Chain, stop, step, Walk}
+use Rattle.meaning.proofs.Sets.{empty, start}
 
 module _ {A : Type 0} where
   -- ---- from lists to walks
@@ -37,7 +38,9 @@ module _ {A : Type 0} where
   walk-seq r s (empty m) (empty n) = empty (m, n)
   walk-seq r s (empty m) (start b c) = start (inr (m, b)) (chain-map (λ x y f. inr (inl f)) (λ x l. inl l) c)
   walk-seq r s (start b c) (empty n) = start (inl b) (chain-join (λ x y f. inl f) (λ x l. stop (inr (n, l))) c)
-  walk-seq r s (start b c) (start d e) = start (inl b) (chain-join (λ x y f. inl f) (λ x l. step (inr (inr (l, d))) (chain-map (λ x y f. inr (inl f)) (λ x l. inl l) e)) c)
+  walk-seq r s (start b c) (start d e) =
+      start (inl b) (chain-join (λ x y f. inl f)
+      (λ x l. step (inr (inr (l, d))) (chain-map (λ x y f. inr (inl f)) (λ x l. inl l) e)) c)
 
   module _ (m : Mark) (r : Expr A) where
     walk-one : {w : List A} → Walk r w → Walk (marked m r) w
@@ -105,13 +108,16 @@ module _ {A : Type 0} where
       → F x y → Join (Chain F L y) Q w → Join (Chain F L x) Q (y ∷ w)
   join-step f (join c q) = join (step f c) q
 
-  join-start : (r s : Expr A) {x : A} {w : List A} → First r x → Join (Chain (Follow r) (Final r) x) (Walk s) w → Join (Walk r) (Walk s) (x ∷ w)
+  join-start : (r s : Expr A) {x : A} {w : List A} → First r x → Join (Chain (Follow r) (Final r) x) (Walk s) w →
+      Join (Walk r) (Walk s) (x ∷ w)
   join-start r s f (join c q) = join (start f c) q
 
-  join-map : {P Q P′ Q′ : List A → Type 0} → ((w : List A) → P w → P′ w) → ((w : List A) → Q w → Q′ w) → {w : List A} → Join P Q w → Join P′ Q′ w
+  join-map : {P Q P′ Q′ : List A → Type 0} → ((w : List A) → P w → P′ w) → ((w : List A) → Q w → Q′ w) → {w : List A} →
+      Join P Q w → Join P′ Q′ w
   join-map f g (join p q) = join (f _ p) (g _ q)
 
-  either-map : {P Q P′ Q′ : List A → Type 0} → ((w : List A) → P w → P′ w) → ((w : List A) → Q w → Q′ w) → {w : List A} → Either P Q w → Either P′ Q′ w
+  either-map : {P Q P′ Q′ : List A → Type 0} → ((w : List A) → P w → P′ w) → ((w : List A) → Q w → Q′ w) →
+      {w : List A} → Either P Q w → Either P′ Q′ w
   either-map f g (left p) = left (f _ p)
   either-map f g (right p) = right (g _ p)
 
@@ -126,11 +132,13 @@ module _ {A : Type 0} where
     seq-final-right x i (inl l) = l
     seq-final-right x i (inr l) = absurd (apart x (final-in r x (l .1)) i)
 
-    seq-right : {x : A} {w : List A} → In x s → Chain (Follow (seq r s)) (Final (seq r s)) x w → Chain (Follow s) (Final s) x w
+    seq-right : {x : A} {w : List A} → In x s → Chain (Follow (seq r s)) (Final (seq r s)) x w →
+        Chain (Follow s) (Final s) x w
     seq-right i c = chain-keep (λ x. In x s) seq-follow-right seq-final-right i c
 
     -- one that is in the first part is there up to some place, and from there a walk of the second
-    seq-left : {x : A} {w : List A} → In x r → Chain (Follow (seq r s)) (Final (seq r s)) x w → Join (Chain (Follow r) (Final r) x) (Walk s) w
+    seq-left : {x : A} {w : List A} → In x r → Chain (Follow (seq r s)) (Final (seq r s)) x w →
+        Join (Chain (Follow r) (Final r) x) (Walk s) w
     seq-left i (stop (inl l)) = absurd (apart _ i (final-in s _ l))
     seq-left i (stop (inr l)) = join {u = []} (stop (l .1)) (empty (l .0))
     seq-left i (step (inl f) c) = join-step f (seq-left (follow-in r _ _ f .1) c)
@@ -162,19 +170,24 @@ module _ {A : Type 0} where
     walk-unalt : {w : List A} → Walk (alt r s) w → Either (Walk r) (Walk s) w
     walk-unalt (empty (inl n)) = left (empty n)
     walk-unalt (empty (inr n)) = right (empty n)
-    walk-unalt (start (inl f) c) = left (start f (chain-keep (λ x. In x r) alt-follow-left alt-final-left (first-in r _ f) c))
-    walk-unalt (start (inr f) c) = right (start f (chain-keep (λ x. In x s) alt-follow-right alt-final-right (first-in s _ f) c))
+    walk-unalt (start (inl f) c) = left
+        (start f (chain-keep (λ x. In x r) alt-follow-left alt-final-left (first-in r _ f) c))
+    walk-unalt (start (inr f) c) = right
+        (start f (chain-keep (λ x. In x s) alt-follow-right alt-final-right (first-in s _ f) c))
 
   module _ (m : Mark) (r : Expr A) where
-    more-start : {x : A} {k : ℕ} {w : List A} → First r x → Join (Chain (Follow r) (Final r) x) (Joined (Walk r) k) w → Joined (Walk r) (suc k) (x ∷ w)
+    more-start : {x : A} {k : ℕ} {w : List A} → First r x → Join (Chain (Follow r) (Final r) x) (Joined (Walk r) k) w →
+        Joined (Walk r) (suc k) (x ∷ w)
     more-start f (join c j) = more (start f c) j
 
-    -- a chain of the marked expression: a chain of the expression, and then walks of it, none where the mark does not repeat
+    -- a chain of the marked expression: a chain of the expression, and then walks of it, none where the mark does not
+    -- repeat
     marked-cut : {x : A} {w : List A} → Chain (Follow (marked m r)) (Final (marked m r)) x w
         → (k : ℕ) × (1 ≤ k → repeats m ≡ true) × Join (Chain (Follow r) (Final r) x) (Joined (Walk r) k) w
     marked-cut (stop l) = (0, (λ h. absurd (omega arith)), join {u = []} (stop l) none)
     marked-cut (step (inl f) c) = let h = marked-cut c in (h .0, h .1, join-step f (h .2))
-    marked-cut (step (inr f) c) = let h = marked-cut c in (suc (h .0), (λ l. f .0), join {u = []} (stop (f .1 .0)) (more-start (f .1 .1) (h .2)))
+    marked-cut (step (inr f) c) = let h = marked-cut c in
+        (suc (h .0), (λ l. f .0), join {u = []} (stop (f .1 .0)) (more-start (f .1 .1) (h .2)))
 
     walk-unmarked : {w : List A} → Walk (marked m r) w → Marked m (Walk r) w
     walk-unmarked (empty (inl e)) = (0, times-none m e, none)
@@ -186,6 +199,7 @@ module _ {A : Type 0} where
   walk→lang (symbol a) n (empty e) = absurd e
   walk→lang (symbol a) n (start f (stop l)) = rw f only
   walk→lang (symbol a) n (start f (step g c)) = absurd g
-  walk→lang (marked m r) n w = let h = walk-unmarked m r w in (h .0, h .1, joined-map {P = Walk r} (λ v. walk→lang r n) (h .2))
+  walk→lang (marked m r) n w = let h = walk-unmarked m r w in
+      (h .0, h .1, joined-map {P = Walk r} (λ v. walk→lang r n) (h .2))
   walk→lang (seq r s) n w = join-map (λ v. walk→lang r (n .0)) (λ v. walk→lang s (n .1)) (walk-unseq r s (n .2) w)
   walk→lang (alt r s) n w = either-map (λ v. walk→lang r (n .0)) (λ v. walk→lang s (n .1)) (walk-unalt r s (n .2) w)

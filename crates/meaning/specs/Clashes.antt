@@ -1,4 +1,5 @@
--- When a model is ambiguous, and the clash that is shown (document 01, "Meaning"; document 004, Definition 1). Assumes nothing.
+-- When a model is ambiguous, and the clash that is shown (document 01, "Meaning"; document 004, Definition 1). Assumes
+-- nothing.
 use mathlib.Core.List.{List, [], _∷_, _++_}
 use mathlib.Core.Logic.{_≢_}
 use mathlib.Core.Path.{_≡_}

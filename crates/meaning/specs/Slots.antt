@@ -1,4 +1,5 @@
--- Slots: the occurrences of names, numbered from 1, left to right (document 01, "Model text" and "Meaning"). Assumes nothing.
+-- Slots: the occurrences of names, numbered from 1, left to right (document 01, "Model text" and "Meaning"). Assumes
+-- nothing.
 use mathlib.Core.List.{List}
 use Prim.Native.Nat.{ℕ, _+_, _-_}
 use lib.ListN.{length, getD}

@@ -7,7 +7,11 @@ use lib.Dec.{eqb}
 use lib.ListN.{getD}
 use Rattle.model.specs.Refusals.{numberOf, placeOf, valuesOf}
 use Rattle.model.specs.declared.Refusal.{Refusal}
-use Rattle.model.specs.declared.Refusal.the-variants.{TextTooLong, TableRoom, UnknownByte, WrongByte, NameTooLong, TooDeep, TooManySlots, TooManyNodes, TableTooShort, BadCounts, BadNodes, BadNames, BadOrder, TooLarge, WrittenTooLong, TextRoom, ChildrenTooLong, ChildByte, ChildTooLong, Ambiguous, SlotRoom, NoSuchSlot}
+use Rattle.model.specs.declared.Refusal.the-variants.{TextTooLong, TableRoom, UnknownByte, WrongByte, NameTooLong}
+use Rattle.model.specs.declared.Refusal.the-variants.{TooDeep, TooManySlots, TooManyNodes, TableTooShort}
+use Rattle.model.specs.declared.Refusal.the-variants.{BadCounts, BadNodes, BadNames, BadOrder, TooLarge}
+use Rattle.model.specs.declared.Refusal.the-variants.{WrittenTooLong, TextRoom, ChildrenTooLong, ChildByte}
+use Rattle.model.specs.declared.Refusal.the-variants.{ChildTooLong, Ambiguous, SlotRoom, NoSuchSlot}
 
 -- the refusal of a number, a place and values
 abbrev of : ℕ → ℕ → List ℕ → Refusal

@@ -1,4 +1,5 @@
--- What each refusal says: the number, the place and the values of document 01, "Numbers given on refusal". Assumes nothing.
+-- What each refusal says: the number, the place and the values of document 01, "Numbers given on refusal". Assumes
+-- nothing.
 use mathlib.Core.List.{List, [], _∷_}
 use Prim.Native.Nat.{ℕ}
 use lib.ListN.{getD}
@@ -6,7 +7,11 @@ use Rattle.model.specs.Limits.{textLimit, childrenLimit}
 use Rattle.model.specs.Figures.{figures}
 use Rattle.model.specs.declared.Figures.{Figures}
 use Rattle.model.specs.declared.Refusal.{Refusal}
-use Rattle.model.specs.declared.Refusal.the-variants.{TextTooLong, TableRoom, UnknownByte, WrongByte, NameTooLong, TooDeep, TooManySlots, TooManyNodes, TableTooShort, BadCounts, BadNodes, BadNames, BadOrder, TooLarge, WrittenTooLong, TextRoom, ChildrenTooLong, ChildByte, ChildTooLong, Ambiguous, SlotRoom, NoSuchSlot}
+use Rattle.model.specs.declared.Refusal.the-variants.{TextTooLong, TableRoom, UnknownByte, WrongByte, NameTooLong}
+use Rattle.model.specs.declared.Refusal.the-variants.{TooDeep, TooManySlots, TooManyNodes, TableTooShort}
+use Rattle.model.specs.declared.Refusal.the-variants.{BadCounts, BadNodes, BadNames, BadOrder, TooLarge}
+use Rattle.model.specs.declared.Refusal.the-variants.{WrittenTooLong, TextRoom, ChildrenTooLong, ChildByte}
+use Rattle.model.specs.declared.Refusal.the-variants.{ChildTooLong, Ambiguous, SlotRoom, NoSuchSlot}
 
 abbrev pub numberOf : Refusal → ℕ
 numberOf TextTooLong = 1

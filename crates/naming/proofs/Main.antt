@@ -52,7 +52,8 @@ pub slot-name-unique :
 slot-name-unique table s r q h k =
     let e = stands-unique (now table) s (k .start) (k .end) (h .start) (h .end) (k .says) (h .says) in
     part-same table r q (h .start) (h .end - h .start) (h .is)
-    (subst (λ a. IsPart table a (h .end - a) q) (e .0) (subst (λ z. IsPart table (k .start) (z - k .start) q) (e .1) (k .is)))
+    (subst (λ a. IsPart table a (h .end - a) q) (e .0)
+    (subst (λ z. IsPart table (k .start) (z - k .start) q) (e .1) (k .is)))
 
 -- and the bytes are the slot's name
 pub slot-name-says :

@@ -121,7 +121,8 @@ module _ (text : Bytes) (at i d : ℕ) (c : Model) (e : i ≡ at + blanks (drop 
 
 -- ---- a group
 -- between two members: behind a bracket or a separator, where a member is wanted
-pub record Going (text : Bytes) (at d : ℕ) (c : Model) (ws ss ls : List ℕ) (i : ℕ) (c₂ : Model) (members sep : ℕ) (ws₂ ss₂ ls₂ : List ℕ) :
+pub record Going (text : Bytes) (at d : ℕ) (c : Model) (ws ss ls : List ℕ) (i : ℕ) (c₂ : Model) (members sep : ℕ)
+    (ws₂ ss₂ ls₂ : List ℕ) :
     Type 0 where
   pub g : Frame
   pub sep-is : sepOf g ≡ sep
@@ -195,13 +196,15 @@ many-nodes [] = omega arith
 many-nodes (t ∷ ts) = let a = one-node t in let b = many-nodes ts in omega arith
 
 module _
-    {text : Bytes} {at d : ℕ} {c : Model} {ws ss ls : List ℕ} {i : ℕ} {c₁ : Model} {members sep : ℕ} {ws₁ ss₁ ls₁ : List ℕ}
+    {text : Bytes} {at d : ℕ} {c : Model} {ws ss ls : List ℕ} {i : ℕ} {c₁ : Model} {members sep : ℕ}
+    {ws₁ ss₁ ls₁ : List ℕ}
     (go : Going text at d c ws ss ls i c₁ members sep ws₁ ss₁ ls₁)
   where
     pub no-member : {f : Refusal} → Fails Wants text i (d + 1) c₁ f → Fails Opens text at d c f
     no-member p = record { same = λ σ K o. go .same σ K o ∙ p .same (want (go .g) K) (go .g ∷ K) wants }
 
-    module _ {e : ℕ} {c₂ : Model} {ws₂ ss₂ ls₂ : List ℕ} (p : Phrase Wants text i (d + 1) c₁ ws₁ ss₁ ls₁ (Behind e c₂) ws₂ ss₂ ls₂) where
+    module _ {e : ℕ} {c₂ : Model} {ws₂ ss₂ ls₂ : List ℕ}
+        (p : Phrase Wants text i (d + 1) c₁ ws₁ ss₁ ls₁ (Behind e c₂) ws₂ ss₂ ls₂) where
       -- behind the member
       over-member : (σ : State) (K : List Frame) → Opens σ K →
           On text σ (tally d c) at ≡ On text (gap (p .0) (go .g ∷ K)) (tally (d + 1) c₂) e

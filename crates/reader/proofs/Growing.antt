@@ -31,7 +31,8 @@ set-sets o k j v (x ∷ ws) h =
     ∙ ap (λ l. sets l (suc j) ws) (set-comm o j k x v (λ e. omega arith))
 
 -- the draft has grown by the trees ts
-pub record AllGrown (text : Bytes) (ts : List (Tree Bytes)) (c : Model) (ws ss ls : List ℕ) (c₂ : Model) (ws₂ ss₂ ls₂ : List ℕ) :
+pub record AllGrown (text : Bytes) (ts : List (Tree Bytes)) (c : Model) (ws ss ls : List ℕ) (c₂ : Model)
+    (ws₂ ss₂ ls₂ : List ℕ) :
     Type 0 where
   pub slots : c₂ .slots ≡ c .slots + length (leavesOf ts)
   pub nodes : c₂ .nodes ≡ c .nodes + nodesOf ts

@@ -89,7 +89,8 @@ seen-none : (text : Bytes) (ss ls : List ℕ) → seen text none ss ls ≡ []
 unfolding namesOf
 seen-none text ss ls = refl
 
-module _ {text : Bytes} {t : Tree Bytes} {ws ss ls : List ℕ} {c : Model} {ws₂ ss₂ ls₂ : List ℕ} (g : Grown text t none ws ss ls c ws₂ ss₂ ls₂) where
+module _ {text : Bytes} {t : Tree Bytes} {ws ss ls : List ℕ} {c : Model} {ws₂ ss₂ ls₂ : List ℕ}
+    (g : Grown text t none ws ss ls c ws₂ ss₂ ls₂) where
   seen-names : namesOf text ss₂ ls₂ 0 (c .names) ≡ names t
   unfolding namesOf
   seen-names = g .names
@@ -140,7 +141,17 @@ module _ {text : Bytes} {t : Tree Bytes} {ws ss ls : List ℕ} {c : Model} {ws�
 pub ready-none : {text : Bytes} {ws ss ls : List ℕ} → length text ≤ textLimit → nodeLimit ≤ length ws →
     nameCountLimit ≤ length ss → nameCountLimit ≤ length ls → Ready text none ws ss ls
 ready-none a b c d =
-    record { short = a; slots = omega arith; nodes = omega arith; names = omega arith; words = b; starts = c; lengths = d; inside = λ i h. absurd (omega arith) }
+    record {
+      short = a;
+      slots = omega arith;
+      nodes = omega arith;
+      names = omega arith;
+      words = b;
+      starts = c;
+      lengths =
+          d;
+      inside = λ i h. absurd (omega arith);
+    }
 
 module _ (text : Bytes) (i : ℕ) (e : i ≡ 0 + blanks (drop 0 text)) where
   over-start : On text start (tally 0 none) 0 ≡ On text start (tally 0 none) i
@@ -162,7 +173,8 @@ module _ (text : Bytes) (i : ℕ) (e : i ≡ 0 + blanks (drop 0 text)) where
   unfolding stepAt
   no-group {f} g = refused-at f (over-start ∙ g .same start [] refl)
 
-  module _ {t : Tree Bytes} {at₂ : ℕ} {c : Model} (p : Part Opens text i 0 none at₂ c t) (j : ℕ) (k : j ≡ at₂ + blanks (drop at₂ text)) where
+  module _ {t : Tree Bytes} {at₂ : ℕ} {c : Model} (p : Part Opens text i 0 none at₂ c t) (j : ℕ)
+      (k : j ≡ at₂ + blanks (drop at₂ text)) where
     over-end : On text start (tally 0 none) 0 ≡ On text (gap t []) (tally 0 c) j
     unfolding stepAt
     over-end =

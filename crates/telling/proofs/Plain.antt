@@ -6,7 +6,11 @@ use denote.Enum.Declared.{tagOf}
 use types.Run.{OneOf, miss}
 use Rattle.model.specs.Refusals.{numberOf, placeOf, valuesOf, figuresOf}
 use Rattle.model.specs.declared.Refusal.{Refusal}
-use Rattle.model.specs.declared.Refusal.the-variants.{TextTooLong, TableRoom, UnknownByte, WrongByte, NameTooLong, TooDeep, TooManySlots, TooManyNodes, TableTooShort, BadCounts, BadNodes, BadNames, BadOrder, TooLarge, WrittenTooLong, TextRoom, ChildrenTooLong, ChildByte, ChildTooLong, Ambiguous as Clashing, SlotRoom, NoSuchSlot}
+use Rattle.model.specs.declared.Refusal.the-variants.{TextTooLong, TableRoom, UnknownByte, WrongByte, NameTooLong}
+use Rattle.model.specs.declared.Refusal.the-variants.{TooDeep, TooManySlots, TooManyNodes, TableTooShort, BadCounts}
+use Rattle.model.specs.declared.Refusal.the-variants.{BadNodes, BadNames, BadOrder, TooLarge, WrittenTooLong, TextRoom}
+use Rattle.model.specs.declared.Refusal.the-variants.{ChildrenTooLong, ChildByte, ChildTooLong, Ambiguous as Clashing}
+use Rattle.model.specs.declared.Refusal.the-variants.{SlotRoom, NoSuchSlot}
 use Rattle.model.proofs.Refusal.{the-type}
 
 -- the variants of a refusal but 24, as the compiler counts them
@@ -37,5 +41,6 @@ plain (Clashing p x y) k = absurd (miss others 19 tt k)
 plain SlotRoom k = refl
 plain NoSuchSlot k = refl
 
-pub plain-figures : (f : Refusal) (n q : ℕ) → OneOf others (tagOf the-type f) → n ≡ numberOf f → q ≡ placeOf f → record { number = n; a = q; b = 0; c = 0 } ≡ figuresOf f
+pub plain-figures : (f : Refusal) (n q : ℕ) → OneOf others (tagOf the-type f) → n ≡ numberOf f → q ≡ placeOf f →
+    record { number = n; a = q; b = 0; c = 0 } ≡ figuresOf f
 plain-figures f n q k e h = rw (e, h, plain f k)

@@ -21,5 +21,6 @@ module _ (t : Tree Bytes) where
 
   pub numbers-verdict : (r : Verdict) → VerdictOn (numbers t) r → VerdictOn t r
   numbers-verdict Deterministic h = λ a. h (ambiguous-relabel (λ a. index sameBytes a (names t)) t numbers-apart a)
-  numbers-verdict (Clashing p x y) h = first-clash-relabel (λ a. index sameBytes a (names t)) t numbers-apart (p .0) (x .0) (y .0) h
+  numbers-verdict (Clashing p x y) h =
+      first-clash-relabel (λ a. index sameBytes a (names t)) t numbers-apart (p .0) (x .0) (y .0) h
   numbers-verdict (Stop f) h = h

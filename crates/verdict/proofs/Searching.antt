@@ -49,7 +49,8 @@ module _ (k : Tree ℕ) where
   next-slot : (p x : ℕ) → Next k p x → (1 ≤ x) × (x < 1 + length (leaves k))
   next-slot p x h = goes-within k p x (next-goes k p x .0 h)
 
-  module _ (start square names later : List ℕ) (n : ℕ) (ready : Ready k start square names n) (links : Linked names later n) where
+  module _ (start square names later : List ℕ) (n : ℕ) (ready : Ready k start square names n)
+      (links : Linked names later n) where
     can-next : (p x : ℕ) → can start square p x ≡ true → Next k p x
     can-next p x e = next-correct k p x .0 (sym (ready .nexts p x) ∙ e)
 
@@ -73,12 +74,14 @@ module _ (k : Tree ℕ) where
     y-start p x y l h e =
         let a = subst (FirstAfter names n x (nameAt names x)) (sym e) (links x l h) in
         let m = ready .named-so x l h in (
-          λ z b c. let w = clash-within p x z c in a .none z (w .1) b (sym (ready .named-so z (omega (arith, w .0, w .1)) (w .2)) ∙ sym (w .4) ∙ m),
+          λ z b c. let w = clash-within p x z c in
+              a .none z (w .1) b (sym (ready .named-so z (omega (arith, w .0, w .1)) (w .2)) ∙ sym (w .4) ∙ m),
           λ i. let o = a .ahead in ready .named-so y (omega arith) i ∙ a .same i ∙ sym m,
         )
 
     -- the next one, where the slot before cannot come next after p
-    pub y-step : (p x y z : ℕ) → x < y → y ≤ n → At n p x y → can start square p y ≡ false → z ≡ getD later (y - 1) 0 → At n p x z
+    pub y-step : (p x y z : ℕ) → x < y → y ≤ n → At n p x y → can start square p y ≡ false → z ≡ getD later (y - 1) 0 →
+        At n p x z
     y-step p x y z o l f e i =
         let a = subst (FirstAfter names n y (nameAt names y)) (sym i) (links y (omega arith) l) in
         let m = ready .named-so y (omega arith) l in
@@ -87,7 +90,8 @@ module _ (k : Tree ℕ) where
               let g = clash-within p x w c in
               elim (decLt w (y + 1)) [
                 | yes j ↦ less {P = Clash k p x} y (f .0) (λ h. true≢false (sym (clash-can p x y h .1) ∙ e)) w j c
-                | no j ↦ a .none w (omega (arith, j)) b (sym (ready .named-so w (omega (arith, g .0, g .1)) (g .2)) ∙ sym (g .4) ∙ sym d ∙ m)
+                | no j ↦ a .none w (omega (arith, j)) b (sym (ready .named-so w (omega (arith, g .0, g .1)) (g .2))
+                    ∙ sym (g .4) ∙ sym d ∙ m)
               ],
           λ h. let j = a .ahead in ready .named-so z (omega arith) h ∙ a .same h ∙ sym m ∙ d,
         )
@@ -95,11 +99,15 @@ module _ (k : Tree ℕ) where
     -- ---- x
     -- no slot of x's name is left
     pub x-done : (p x y : ℕ) → FreeX p x → n < y → At n p x y → FreeX p (x + 1)
-    x-done p x y f h a = λ w z l c. less {P = λ u. (v : ℕ) × Clash k p u v} x (λ u b d. f u (d .0) b (d .1)) (λ d. a .0 (d .0) (omega (arith, clash-within p x (d .0) (d .1) .2)) (d .1)) w l (z, c)
+    x-done p x y f h a = λ w z l c. less {P =
+        λ u. (v : ℕ) × Clash k p u v} x (λ u b d. f u (d .0) b (d .1))
+        (λ d. a .0 (d .0) (omega (arith, clash-within p x (d .0) (d .1) .2)) (d .1)) w l (z, c)
 
     -- x cannot come next after p
     pub x-skip : (p x : ℕ) → FreeX p x → can start square p x ≡ false → FreeX p (x + 1)
-    x-skip p x f e = λ w z l c. less {P = λ u. (v : ℕ) × Clash k p u v} x (λ u b d. f u (d .0) b (d .1)) (λ d. true≢false (sym (clash-can p x (d .0) (d .1) .0) ∙ e)) w l (z, c)
+    x-skip p x f e = λ w z l c. less {P =
+        λ u. (v : ℕ) × Clash k p u v} x (λ u b d. f u (d .0) b (d .1))
+        (λ d. true≢false (sym (clash-can p x (d .0) (d .1) .0) ∙ e)) w l (z, c)
 
     pub x-none : (p : ℕ) → FreeX p 1
     x-none p w y l c = omega (arith, clash-within p w y c .0)
@@ -108,11 +116,16 @@ module _ (k : Tree ℕ) where
     pub p-done : (p x : ℕ) → FreeP p → n < x → FreeX p x → FreeP (p + 1)
     p-done p x f h g = λ q w z l c.
         less {P = λ u. (v r : ℕ) × Clash k u v r} p (λ u b d. f u (d .0) (d .1) b (d .2))
-        (λ d. let i = clash-within p (d .0) (d .1) (d .2) in g (d .0) (d .1) (omega (arith, i .1, i .2)) (d .2)) q l (w, z, c)
+        (λ d. let i = clash-within p (d .0) (d .1) (d .2) in g (d .0) (d .1) (omega (arith, i .1, i .2)) (d .2)) q l (
+          w,
+          z,
+          c,
+        )
 
     -- ---- the verdict
     pub none-left : (p : ℕ) → n < p → FreeP p → ¬ Ambiguous k
-    none-left p h f a = let c = ambiguous-clash k .0 a in f (c .0) (c .1) (c .2) (omega (arith, clash-within (c .0) (c .1) (c .2) (c .3) .3)) (c .3)
+    none-left p h f a = let c = ambiguous-clash k .0 a in
+        f (c .0) (c .1) (c .2) (omega (arith, clash-within (c .0) (c .1) (c .2) (c .3) .3)) (c .3)
 
     at-least : {P : ℕ → Type 0} (n : ℕ) → ((m : ℕ) → m < n → P m → ⊥) → (m : ℕ) → P m → n ≤ m
     at-least {P} n f m p = go (decLt m n)
@@ -121,11 +134,13 @@ module _ (k : Tree ℕ) where
         go (yes h) = absurd (f m h p)
         go (no h) = omega (arith, h)
 
-    pub first-found : (p x y : ℕ) → x < y → y ≤ n → FreeP p → FreeX p x → At n p x y → can start square p x ≡ true → can start square p y ≡ true → FirstClash k p x y
+    pub first-found : (p x y : ℕ) → x < y → y ≤ n → FreeP p → FreeX p x → At n p x y → can start square p x ≡ true →
+        can start square p y ≡ true → FirstClash k p x y
     first-found p x y o l f g a e h =
         record {
           clash = clash-correct k p x y .1 (can-next p x e, can-next p y h, sym (a .1 l), o);
-          least-p = λ q w z c. at-least {P = λ u. (v r : ℕ) × Clash k u v r} p (λ u b d. f u (d .0) (d .1) b (d .2)) q (w, z, c);
+          least-p = λ q w z c. at-least {P =
+              λ u. (v r : ℕ) × Clash k u v r} p (λ u b d. f u (d .0) (d .1) b (d .2)) q (w, z, c);
           least-x = λ w z c. at-least {P = λ u. (v : ℕ) × Clash k p u v} x (λ u b d. g u (d .0) b (d .1)) w (z, c);
           least-y = λ z c. at-least {P = Clash k p x} y (a .0) z c;
         }

@@ -30,7 +30,13 @@ module _ (k : Tree ℕ) (ws : List ℕ) (fits : Fits k ws) where
 
   pub fits-stands : Stands k ws 0 1
   fits-stands = record {
-    sits = record { rest = []; here = fits .here ∙ sym (append-nil (words k)); below = below-values; small = fits .small };
+    sits = record {
+      rest = [];
+      here = fits .here ∙ sym (append-nil (words k));
+      below = below-values;
+      small =
+          fits .small;
+    };
     low = omega arith;
     fits = omega (arith, fits .few);
   }
@@ -49,14 +55,20 @@ pub linked-ahead : (ns later : List ℕ) (n : ℕ) → Linked ns later n → Ahe
 linked-ahead ns later n l x a b = let f = l x a b in (f .ahead, f .within)
 
 -- what names, links, survey and search say together
-module _ (k : Tree ℕ) (ws : List ℕ) (fits : Fits k ws) (ns later q : List ℕ) (n : ℕ) (filled : Filled ws ns n) (linked : Linked ns later n) where
+module _ (k : Tree ℕ) (ws : List ℕ) (fits : Fits k ws) (ns later q : List ℕ) (n : ℕ) (filled : Filled ws ns n)
+    (linked : Linked ns later n) where
   pub weighed : (r : Survey) → Surveyed k r q → (v : Verdict) →
       ((j : Tree ℕ) (names : List ℕ) → Linked names later n → Ready j (r .first .marks) q names n → VerdictOn j v) →
       Weighs k (record { verdict = v; slots = n; first = r .first; last = r .last; empty = r .empty }) ns q
   weighed r s v h =
       let c : n ≡ length (leaves k) = filled-count k ws fits ns n filled in
       record {
-        verdict = h k ns linked record { slots = sym c; nexts = survey-nexts k r q s; named-so = λ x a b. fits-named k ws fits ns n filled x a (omega arith) };
+        verdict = h k ns linked record {
+          slots = sym c;
+          nexts = survey-nexts k r q s;
+          named-so =
+              λ x a b. fits-named k ws fits ns n filled x a (omega arith);
+        };
         nexts = survey-nexts k r q s;
         stops = survey-stops k r q s;
         slots = c;

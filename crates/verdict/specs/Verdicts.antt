@@ -1,4 +1,5 @@
--- The verdict on a model: deterministic, or ambiguous with the clash that is shown (document 01, "Meaning"). Assumes nothing.
+-- The verdict on a model: deterministic, or ambiguous with the clash that is shown (document 01, "Meaning"). Assumes
+-- nothing.
 use Rattle.model.specs.Figures.{figures}
 use Rattle.model.specs.Refusals.{figuresOf}
 use Rattle.model.specs.declared.Figures.{Figures}

@@ -77,7 +77,8 @@ loop-again c =
             (c .before .before .before .before .before .before .loop .i)
             (c .before .before .before .before .before .before .before .before .args .m)
             (c .before .before .before .before .before .before .loop .want)
-            (c .before .before .before .before .before .loop-test .taken) (c .before .before .before .before .if1 .left)))) ∙
+            (c .before .before .before .before .before .loop-test .taken)
+            (c .before .before .before .before .if1 .left)))) ∙
             c .before .before .before .before .before .before .loop .inv .1 .1),
       ),
     )

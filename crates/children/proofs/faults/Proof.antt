@@ -38,7 +38,8 @@ loop-again c = (
   (
     search needs,
     sym (judge-at (c .before .before .before .before .before .before .args .text .now)
-        (c .before .before .before .before .loop .n) (c .before .before .before .before .loop .i) (search needs) ∙ rw (sym
+        (c .before .before .before .before .loop .n) (c .before .before .before .before .loop .i) (search needs)
+        ∙ rw (sym
         (c .before .is-space .ensures) ∙ c .if1 .taken)) ∙ c .before .before .before .before .loop .inv .1 .1,
   ),
 )

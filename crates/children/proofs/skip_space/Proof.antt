@@ -54,7 +54,8 @@ loop-again c =
         search needs,
         (
           c .before .before .before .before .loop .inv .1 .1 .0 ∙ cut-space
-              (c .before .before .before .before .before .before .args .text .now) (c .before .before .before .before .loop .i)
+              (c .before .before .before .before .before .before .args .text .now)
+              (c .before .before .before .before .loop .i)
               (search needs) [] e,
           λ s. sound-space (c .before .before .before .before .before .before .args .text .now)
               (c .before .before .before .before .loop .i) (search needs) e

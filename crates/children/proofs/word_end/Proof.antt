@@ -7,7 +7,8 @@ use Prim.Native.Nat.{_≤_, _-_, _+_}
 use native.Mathlib.Omega.{arith}
 use lib.ListN.{length, take, drop}
 use Rattle.children.specs.Inner.Splitting.{cut, Sound}
-use Rattle.children.proofs.Walking.{cut-byte, cut-stop, cut-end, part-next, part-none, later, Within, within-byte, within-stop, sound-end}
+use Rattle.children.proofs.Walking.{cut-byte, cut-stop, cut-end, part-next, part-none, later, Within}
+use Rattle.children.proofs.Walking.{within-byte, within-stop, sound-end}
 use Rattle.children.proofs.word_end.Statement.{statement}
 use Rattle.children.proofs.word_end.Tie as tie
 
@@ -44,10 +45,12 @@ returns c =
       within = search needs;
       words = sym
           (c .before .before .before .before .loop .inv .1 .1 .0) ∙ cut-stop
-          (c .before .before .before .before .before .before .args .text .now) (c .before .before .before .before .loop .i)
+          (c .before .before .before .before .before .before .args .text .now)
+          (c .before .before .before .before .loop .i)
           (search needs) _ (sym (c .before .is-space .ensures) ∙ c .if1 .taken);
       sound = λ s. within-stop
-          (c .before .before .before .before .before .before .args .text .now) (c .before .before .before .before .loop .i)
+          (c .before .before .before .before .before .before .args .text .now)
+          (c .before .before .before .before .loop .i)
           (search needs) (sym (c .before .is-space .ensures) ∙ c .if1 .taken)
           (c .before .before .before .before .loop .inv .1 .1 .1 s);
       some = λ h e. later
@@ -70,13 +73,16 @@ loop-again c = (
     (
       ap (λ l. cut l (drop ((c .before .before .before .before .loop .i) + 1)
           (c .before .before .before .before .before .before .args .text .now))) (part-next
-          (c .before .before .before .before .before .before .args .text .now) (c .before .before .before .before .loop .i)
+          (c .before .before .before .before .before .before .args .text .now)
+          (c .before .before .before .before .loop .i)
           (search needs) _ (c .before .before .before .before .loop .inv .0)) ∙ sym (cut-byte
-          (c .before .before .before .before .before .before .args .text .now) (c .before .before .before .before .loop .i)
+          (c .before .before .before .before .before .before .args .text .now)
+          (c .before .before .before .before .loop .i)
           (search needs) _ (sym (c .before .is-space .ensures) ∙ c .if1 .left)) ∙
           c .before .before .before .before .loop .inv .1 .1 .0,
       λ s. within-byte
-          (c .before .before .before .before .before .before .args .text .now) (c .before .before .before .before .loop .i)
+          (c .before .before .before .before .before .before .args .text .now)
+          (c .before .before .before .before .loop .i)
           (search needs) (sym (c .before .is-space .ensures) ∙ c .if1 .left)
           (c .before .before .before .before .loop .inv .1 .1 .1 s),
     ),

@@ -3,7 +3,8 @@ use borrow.Author.Needs.{needs}
 use mathlib.Core.Path.{refl, sym, subst}
 use Rattle.matching.specs.Matches.{by-model, by-room, by-children, MatchAnswer}
 use Rattle.placing.proofs.Preparing.{is-ready, not-ready}
-use Rattle.matching.proofs.Answering.{checked-fine, checked-refused, checked-sound, walked-few, walk-placed, match-placed}
+use Rattle.matching.proofs.Answering.{checked-fine, checked-refused, checked-sound, walked-few, walk-placed}
+use Rattle.matching.proofs.Answering.{match-placed}
 use Rattle.matching.proofs.match_children.Statement.{statement}
 use Rattle.matching.proofs.match_children.Tie as tie
 
@@ -31,7 +32,8 @@ returns c =
     let c15 = c7 .before .before .before .before .before .before .before .before in (
       by-model (not-ready (c15 .args .table .now) (c7 .prepare .last .1 .0) (c7 .prepare .last .1 .1 .0)
           (c7 .prepare .last .1 .1 .1 .0) (c7 .prepare .last .1 .1 .1 .1 .0) (c7 .prepare .result .passing)
-          (c7 .prepare .result) (c .before .passing .given .0 .0) (c7 .prepare .ensures) (c .before .passing .given .1)),
+          (c7 .prepare .result) (c .before .passing .given .0 .0) (c7 .prepare .ensures)
+          (c .before .passing .given .1)),
       refl,
     )
 

@@ -1,4 +1,5 @@
--- Trees in two-way form, with the empty-list question, first, last and follow as tests (documents 000 and 004). Assumes nothing.
+-- Trees in two-way form, with the empty-list question, first, last and follow as tests (documents 000 and 004). Assumes
+-- nothing.
 use mathlib.Core.Bool.{Bool, true, false, _&&_, _||_}
 use Prim.Native.Nat.{ℕ, zero, suc}
 use lib.Dec.{eqb}

@@ -109,15 +109,19 @@ loop-again-2 c =
           omega (
             arith,
             length-set
-                (c .before .before .before .before .before .loop .names) (c .before .before .before .before .before .loop .n)
+                (c .before .before .before .before .before .loop .names)
+                (c .before .before .before .before .before .loop .n)
                 (c .before .before .node-of .result .value),
           ),
           rw e (names-put
               (c .before .before .before .before .before .before .before .before .args .words .now)
-              (c .before .before .before .before .before .loop .names) (c .before .before .before .before .before .loop .n)
+              (c .before .before .before .before .before .loop .names)
+              (c .before .before .before .before .before .loop .n)
               (c .before .before .before .before .before .loop .i) (c .before .before .before .before .loop-test .taken)
-              (c .before .before .before .before .before .loop .inv .1 .1 .1) (sym (c .before .is-name .ensures ∙ ap (λ z.
-              isName (z .kind)) (c .before .before .node-of .ensures)) ∙ not-false _ (c .if1 .left)) (omega (arith, r))),
+              (c .before .before .before .before .before .loop .inv .1 .1 .1)
+              (sym (c .before .is-name .ensures ∙ ap (λ z.
+              isName (z .kind)) (c .before .before .node-of .ensures))
+              ∙ not-false _ (c .if1 .left)) (omega (arith, r))),
         ),
       ),
     )

@@ -95,7 +95,8 @@ slot-part-requires c κs =
     (c16 .load .last .1 .1 .1 .0) _ (c11 .loaded .given .0 .0) (c16 .load .ensures) (c11 .loaded .given .1) in (
       m .model,
       slot-here (c21 .args .table .now) (c16 .load .last .1 .0) (c16 .load .last .1 .1 .0)
-          (c16 .load .last .1 .1 .1 .0) (c11 .loaded .given .0 .0) m (c6 .fill-names .last .1 .0) (c6 .fill-names .result)
+          (c16 .load .last .1 .1 .1 .0) (c11 .loaded .given .0 .0) m (c6 .fill-names .last .1 .0)
+          (c6 .fill-names .result)
           (c6 .fill-names .ensures) (c21 .args .s .0) (omega (arith, c .before .before .before .if1 .left)) (omega (
             arith,
             c .before .if2 .left,

@@ -9,7 +9,8 @@ use Rattle.meaning.specs.Trees.{Tree}
 use Rattle.names.specs.Bytes.{Bytes}
 use Rattle.names.specs.Tests.{Says}
 use Rattle.placing.specs.Inner.Memory.{Named, Comes}
-use Rattle.placing.proofs.Finding.{NoneBelow, none-first, none-skip, none-other, found-here, finds-slot, finds-none}
+use Rattle.placing.proofs.Finding.{NoneBelow, none-first, none-skip, none-other, found-here, finds-slot}
+use Rattle.placing.proofs.Finding.{finds-none}
 use Rattle.placing.proofs.find.Statement.{statement}
 use Rattle.placing.proofs.find.Tie as tie
 

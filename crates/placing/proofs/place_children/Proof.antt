@@ -165,13 +165,15 @@ loop-again c =
             c2 .lay .kept .0 ∙
                 c11 .loop .inv .1 .1 .1 .0,
             λ t known sound. going-on t ((c19 .args .children) .now) ((c19 .args .room) .now)
-                (c11 .loop .placed) (c11 .loop .held) (c11 .loop .i) (c11 .loop .room) (c11 .loop .inv .1 .1 .1 .1 t known sound)
+                (c11 .loop .placed) (c11 .loop .held) (c11 .loop .i) (c11 .loop .room)
+                (c11 .loop .inv .1 .1 .1 .1 t known sound)
                 (c10 .next-word .result .start) (c10 .next-word .result .end) (c10 .next-word .ensures) (let o =
                 (c10 .next-word .ensures) .word .from in
                 let l = (c10 .next-word .ensures) .word .within in
                 omega (arith, o, l, c9 .if1 .left)) (c6 .find .result .0) _ (finds-some t (c11 .loop .held) (take
                 (c10 .next-word .result .end - c10 .next-word .result .start) (drop (c10 .next-word .result .start)
-                ((c19 .args .children) .now))) (c6 .find .result .0) (c6 .find .ensures .1 t (c11 .loop .held) (known .named-so)
+                ((c19 .args .children) .now))) (c6 .find .result .0)
+                (c6 .find .ensures .1 t (c11 .loop .held) (known .named-so)
                 (λ x. c8 .nexts .ensures x ∙ known .nexts (c11 .loop .held) x)) (c4 .if2 .left)) (c2 .lay .ensures),
           ),
         ),

@@ -38,7 +38,8 @@ Opens σ K = stepAt σ opening opens ≡ want fresh K
 
 -- the phrase at `at` is t, and ends before at₂
 pub record Part
-    (From : State → List Frame → Type 0) (text : Bytes) (at d : ℕ) (c : Model) (at₂ : ℕ) (c₂ : Model) (t : Tree Bytes) : Type 0 where
+    (From : State → List Frame → Type 0) (text : Bytes) (at d : ℕ) (c : Model) (at₂ : ℕ) (c₂ : Model)
+    (t : Tree Bytes) : Type 0 where
   pub same : (σ : State) (K : List Frame) → From σ K → On text σ (tally d c) at ≡ On text (gap t K) (tally d c₂) at₂
   pub from : at < at₂
   pub to : at₂ ≤ length text

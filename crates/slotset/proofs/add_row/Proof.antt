@@ -65,7 +65,8 @@ loop-again c =
         simp length-set (omega arith),
         (
           below-more (λ k. getD b (from + k) 0 ≡ bitOr (getD s (from + k)
-              0) (getD m k 0)) (l .i) (λ k h. rw (getD-set-other (l .square) (from + l .i) (from + k) v 0 (λ e. omega arith))
+              0) (getD m k 0)) (l .i) (λ k h. rw
+              (getD-set-other (l .square) (from + l .i) (from + k) v 0 (λ e. omega arith))
               (l .inv .1 .1 .0 k h)) (here ∙ ap (λ z. bitOr z (getD m (l .i) 0)) at),
           λ k h. getD-set-other (l .square) (from +
               l .i) k v 0 (λ e. h (omega arith) (omega arith)) ∙ l .inv .1 .1 .1 k (λ g d. h g (omega arith)),

@@ -96,12 +96,14 @@ loop-again c =
             link
                 (c .before .before .before .before .before .args .names .now) (c .before .before .loop .later)
                 (c .before .before .loop .seen) (c .before .before .before .before .before .args .slots)
-                (c .before .before .loop .x) (c .number-at .result .0) (search needs) (search needs) (c .number-at .ensures .is)
+                (c .before .before .loop .x) (c .number-at .result .0) (search needs) (search needs)
+                (c .number-at .ensures .is)
                 (c .before .before .loop .inv .1 .1 .1 .0) (c .before .before .loop .inv .1 .1 .1 .1) (search needs) b,
             see
                 (c .before .before .before .before .before .args .names .now) (c .before .before .loop .later)
                 (c .before .before .loop .seen) (c .before .before .before .before .before .args .slots)
-                (c .before .before .loop .x) (c .number-at .result .0) (search needs) (search needs) (c .number-at .ensures .is)
+                (c .before .before .loop .x) (c .number-at .result .0) (search needs) (search needs)
+                (c .number-at .ensures .is)
                 (c .before .before .loop .inv .1 .1 .1 .1) (omega (arith, b)),
           ),
         ),

@@ -9,7 +9,8 @@ use native.Mathlib.Omega.{arith}
 use Rattle.meaning.specs.Trees.{Tree}
 use Rattle.verdict.specs.Inner.Search.{Linked, Ready}
 use Rattle.verdict.specs.declared.Verdict.the-variants.{Deterministic}
-use Rattle.verdict.proofs.Searching.{FreeP, FreeX, At, y-start, y-step, x-none, x-done, x-skip, p-done, none-left, first-found}
+use Rattle.verdict.proofs.Searching.{FreeP, FreeX, At, y-start, y-step, x-none, x-done, x-skip, p-done}
+use Rattle.verdict.proofs.Searching.{none-left, first-found}
 use Rattle.verdict.proofs.first_clash.Statement.{statement}
 use Rattle.verdict.proofs.first_clash.Tie as tie
 
@@ -46,7 +47,8 @@ loop-holds c = (
     (
       search needs,
       λ k ns l r. x-none k
-          (c .before .before .before .before .args .start .marks) (c .before .before .before .before .args .square .now) ns
+          (c .before .before .before .before .args .start .marks)
+          (c .before .before .before .before .args .square .now) ns
           (c .before .before .before .before .args .later .now) (c .before .before .before .before .args .slots) r l
           (c .before .search .p),
     ),
@@ -116,7 +118,8 @@ loop-again-2 c = (
       search needs,
       λ k ns l r. x-skip k
           (c .before .before .before .before .before .before .before .before .before .before .before .args .start .marks)
-          (c .before .before .before .before .before .before .before .before .before .before .before .args .square .now) ns
+          (c .before .before .before .before .before .before .before .before .before .before .before .args .square .now)
+          ns
           (c .before .before .before .before .before .before .before .before .before .before .before .args .later .now)
           (c .before .before .before .before .before .before .before .before .before .before .before .args .slots) r l
           (c .before .before .before .before .before .before .before .before .search .p)
@@ -143,7 +146,8 @@ loop2-holds c =
               (c .before .before .before .before .before .before .before .before .before .before .before .args .start .marks)
               (c .before .before .before .before .before .before .before .before .before .before .before .args .square .now) ns
               (c .before .before .before .before .before .before .before .before .before .before .before .args .later .now)
-              (c .before .before .before .before .before .before .before .before .before .before .before .args .slots) r l
+              (c .before .before .before .before .before .before .before .before .before .before .before .args .slots) r
+              l
               (c .before .before .before .before .before .before .before .before .search .p)
               (c .before .before .before .before .before .before .loop .x) (c .before .before .before .wide .result)
               (c .before .before .before .before .before .before .loop .inv .0)
@@ -203,7 +207,8 @@ loop2-again c =
               (c .before .before .before .before .before .before .before .before .before .before .before .before .before .before .search .p)
               (c .before .before .before .before .before .before .before .before .before .before .before .before .loop .x)
               (c .before .before .before .before .before .loop2 .y) (c .wide2 .result)
-              (c .before .before .before .before .before .loop2 .inv .0) (c .before .before .before .before .loop2-test .taken)
+              (c .before .before .before .before .before .loop2 .inv .0)
+              (c .before .before .before .before .loop2-test .taken)
               (c .before .before .before .before .before .loop2 .inv .1 .1 .1 k ns l r) (sym
               (c .before .before .before .can-follow2 .ensures) ∙ c .before .before .if3 .left) e,
         ),

@@ -1,4 +1,5 @@
--- What the search for the first clash works on: what can come next, and for each slot the next one of its name. Assumes nothing.
+-- What the search for the first clash works on: what can come next, and for each slot the next one of its name. Assumes
+-- nothing.
 use mathlib.Core.Bool.{Bool}
 use mathlib.Core.List.{List}
 use mathlib.Core.Path.{_≡_}
@@ -43,7 +44,8 @@ abbrev pub stop : Bool → List ℕ → ℕ → Bool
 stop empty last zero = empty
 stop empty last (suc s) = member last (suc s)
 
--- what weighing a draft finds of its tree: the verdict, what can come next and what can end a list, and the names of the slots
+-- what weighing a draft finds of its tree: the verdict, what can come next and what can end a list, and the names of
+-- the slots
 pub record Weighs (k : Tree ℕ) (r : Weighed) (names square : List ℕ) : Type 0 where
   pub verdict : VerdictOn k (r .verdict)
   pub nexts : (p x : ℕ) → can (r .first .marks) square p x ≡ next (slotted k) p x
