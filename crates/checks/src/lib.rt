@@ -1,6 +1,6 @@
 // What the words of a draft are checked for before anything recurses over them: one whole tree, order of first use,
-// depth, slots, and the
-// length of the text. No function here recurses: a table that is not yet checked can nest as deep as it has nodes.
+// depth, slots, and the length of the text. No function here recurses: a table that is not yet checked can nest as deep
+// as it has nodes.
 ghost use mathlib.Core.List.{[]};
 ghost use mathlib.Core.Path.{_≡_};
 ghost use Prim.Native.Nat.{_<_, _≤_};

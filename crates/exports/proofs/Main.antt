@@ -1,6 +1,5 @@
 -- What users of the C interface rely on: a number tells its figures, and any two numbers that a function permits are
--- the
--- same. Assumes nothing.
+-- the same. Assumes nothing.
 use mathlib.Core.Path.{_≡_, sym, ap, _∙_}
 use Prim.Native.Nat.{ℕ}
 use native.Mathlib.Omega.{arith}

@@ -1,4 +1,5 @@
-// The C interface: each answer is one number, `number * 2^56 + a * 2^32 + b * 2^16 + c`. A slice is its pointer, then its length.
+// The C interface: the figures of each answer as one number, `sort * 2^56 + a * 2^32 + b * 2^16 + c`, where the sort is
+// the figures' number. A slice is its pointer, then its length.
 ghost use mathlib.Core.Path.{_≡_};
 ghost use Rattle.reading.specs.Reads.{ReadAnswer, outcomeFigures};
 ghost use Rattle.writer.specs.Answers.{WriteAnswer, CountAnswer, writtenFigures, countedFigures};
@@ -26,7 +27,8 @@ fn pack(f: Figures) -> u64
 // Reads a model text: 0 and the table's length.
 #[no_mangle]
 pub extern "C" fn slots_read(text: &[u8], table: &mut [u8]) -> u64
-    ensures { λ n. ⌜ Told (λ r. ReadAnswer (now (text .entry)) (now (table .entry)) r (now (table .exit))) outcomeFigures n ⌝ }
+    ensures { λ n. ⌜ Told (λ r. ReadAnswer (now (text .entry)) (now (table .entry)) r (now (table .exit)))
+        outcomeFigures n ⌝ }
 {
     let r = reading::read(text, table);
     pack(telling::outcome_figures(r))
@@ -35,7 +37,8 @@ pub extern "C" fn slots_read(text: &[u8], table: &mut [u8]) -> u64
 // Writes a table's text: 0 and its length.
 #[no_mangle]
 pub extern "C" fn slots_write(table: &[u8], text: &mut [u8]) -> u64
-    ensures { λ n. ⌜ Told (λ r. WriteAnswer (now (table .entry)) (now (text .entry)) r (now (text .exit))) writtenFigures n ⌝ }
+    ensures { λ n. ⌜ Told (λ r. WriteAnswer (now (table .entry)) (now (text .entry)) r (now (text .exit)))
+        writtenFigures n ⌝ }
 {
     let r = writer::write(table, text);
     pack(telling::written_figures(r))
@@ -62,7 +65,8 @@ pub extern "C" fn slots_count(table: &[u8]) -> u64
 // Matches children: 0 allowed, 1 stopped, 2 short.
 #[no_mangle]
 pub extern "C" fn slots_match(table: &[u8], children: &[u8], slots: &mut [u8]) -> u64
-    ensures { λ n. ⌜ Told (λ r. MatchAnswer (now (table .entry)) (now (children .entry)) (now (slots .entry)) r (now (slots .exit))) matchedFigures n ⌝ }
+    ensures { λ n. ⌜ Told (λ r. MatchAnswer (now (table .entry)) (now (children .entry)) (now (slots .entry)) r
+        (now (slots .exit))) matchedFigures n ⌝ }
 {
     let r = matching::match_children(table, children, slots);
     pack(telling::matched_figures(r))

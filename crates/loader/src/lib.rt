@@ -230,8 +230,7 @@ fn rest_of(words: &[u32], lengths: &[u16], m: usize) -> Loaded
 }
 
 // The model of a table as a draft: a word for each node, and for each name its start and its length in the table; or
-// the first
-// refusal that the table meets.
+// the first refusal that the table meets.
 pub fn load(table: &[u8], words: &mut [u32], starts: &mut [u16], lengths: &mut [u16]) -> Loaded
     requires { ⌜ (length (now words) ≡ nodeLimit)
         × ((length (now starts) ≡ nameCountLimit) × (length (now lengths) ≡ nameCountLimit)) ⌝ }

@@ -22,8 +22,7 @@ use Rattle.matching.specs.declared.Matched.{Matched}
 use Rattle.matching.specs.declared.Matched.the-variants.{Allowed as IsAllowed, Stopped, Short, Refused as Stop}
 
 -- in figures: 0 allowed and the number of children; 1 stopped and the child, 2 short and the number of children, both
--- with
--- the slot held; or the refusal
+-- with the slot held; or the refusal
 abbrev pub matchedFigures : Matched → Figures
 matchedFigures (IsAllowed n) = figures 0 n 0 0
 matchedFigures (Stopped k s) = figures 1 k (s .0) 0

@@ -1,6 +1,5 @@
 -- Names read one by one. The slot that single steps hold is that of some allowed numbered list, and in a model that is
--- not
--- ambiguous it is the slot of all of them (demand 3). Assumes nothing.
+-- not ambiguous it is the slot of all of them (demand 3). Assumes nothing.
 use mathlib.Core.List.{List, [], _∷_, _++_, map, append-nil, nil≢cons, head-eq-of-cons-eq, tail-eq-of-cons-eq}
 use mathlib.Core.Logic.{_↔_}
 use mathlib.Core.Path.{_≡_, refl, sym, _∙_, ap, ap₂, subst}

@@ -153,9 +153,11 @@ fn number_of(
     to: usize,
 ) -> NameNumber
     requires { ⌜ (from ≤ to) × (to ≤ length (now text)) ⌝ }
-    requires { ⌜ (names ≤ length (now starts)) × (names ≤ length (now lengths)) × Inside (now text) (now starts) (now lengths) names ⌝ }
+    requires { ⌜ (names ≤ length (now starts)) × (names ≤ length (now lengths))
+        × Inside (now text) (now starts) (now lengths) names ⌝ }
     ensures { λ r.
-        ⌜ (r .0 ≡ index sameBytes (take (to - from) (drop from (now (text .entry)))) (namesOf (now (text .entry)) (now (starts .entry)) (now (lengths .entry)) 0 names)) × (r .0 ≤ names) ⌝ }
+        ⌜ (r .0 ≡ index sameBytes (take (to - from) (drop from (now (text .entry))))
+        (namesOf (now (text .entry)) (now (starts .entry)) (now (lengths .entry)) 0 names)) × (r .0 ≤ names) ⌝ }
 {
     let mut i = 0;
     while i < names {
@@ -183,7 +185,9 @@ fn enter(
     requires { ⌜ (at ≤ end) × (end ≤ length (now text)) × (counts .slots < slotLimit) × (counts .nodes < nodeLimit) ⌝ }
     requires { ⌜ Ready (now text) counts (now words) (now starts) (now lengths) ⌝ }
     ensures { λ r.
-        ⌜ Grown (now (text .entry)) (leaf mark (take (end - at) (drop at (now (text .entry))))) counts (now (words .entry)) (now (starts .entry)) (now (lengths .entry)) r (now (words .exit)) (now (starts .exit)) (now (lengths .exit)) ⌝ }
+        ⌜ Grown (now (text .entry)) (leaf mark (take (end - at) (drop at (now (text .entry))))) counts
+        (now (words .entry)) (now (starts .entry)) (now (lengths .entry)) r
+        (now (words .exit)) (now (starts .exit)) (now (lengths .exit)) ⌝ }
 {
     let node = counts.nodes;
     let known = counts.names;
@@ -225,7 +229,9 @@ fn named(
     requires { ⌜ (at < length (now text)) × (startByte (getD (now text) at 0) ≡ true) ⌝ }
     requires { ⌜ Ready (now text) counts (now words) (now starts) (now lengths) ⌝ }
     ensures { λ r.
-        ⌜ ((d : ℕ) → Phrase Wants (now (text .entry)) at d counts (now (words .entry)) (now (starts .entry)) (now (lengths .entry)) r (now (words .exit)) (now (starts .exit)) (now (lengths .exit))) ⌝ }
+        ⌜ ((d : ℕ) → Phrase Wants (now (text .entry)) at d counts
+        (now (words .entry)) (now (starts .entry)) (now (lengths .entry)) r
+        (now (words .exit)) (now (starts .exit)) (now (lengths .exit))) ⌝ }
 {
     let slots = counts.slots;
     let nodes = counts.nodes;
@@ -283,7 +289,9 @@ fn particle(
     requires { ⌜ (at ≤ length (now text)) × (deep ≤ groupLimit) ⌝ }
     requires { ⌜ Ready (now text) counts (now words) (now starts) (now lengths) ⌝ }
     ensures { λ r.
-        ⌜ Phrase Wants (now (text .entry)) at deep counts (now (words .entry)) (now (starts .entry)) (now (lengths .entry)) r (now (words .exit)) (now (starts .exit)) (now (lengths .exit)) ⌝ }
+        ⌜ Phrase Wants (now (text .entry)) at deep counts
+        (now (words .entry)) (now (starts .entry)) (now (lengths .entry)) r
+        (now (words .exit)) (now (starts .exit)) (now (lengths .exit)) ⌝ }
 {
     let i = skip(text, at);
     if i == text.len() {
@@ -313,7 +321,9 @@ fn group(
     requires { ⌜ getD (now text) at 0 ≡ opening ⌝ }
     requires { ⌜ Ready (now text) counts (now words) (now starts) (now lengths) ⌝ }
     ensures { λ r.
-        ⌜ Phrase Opens (now (text .entry)) at deep counts (now (words .entry)) (now (starts .entry)) (now (lengths .entry)) r (now (words .exit)) (now (starts .exit)) (now (lengths .exit)) ⌝ }
+        ⌜ Phrase Opens (now (text .entry)) at deep counts
+        (now (words .entry)) (now (starts .entry)) (now (lengths .entry)) r
+        (now (words .exit)) (now (starts .exit)) (now (lengths .exit)) ⌝ }
 {
     let node = counts.nodes;
     if deep == Model::GROUPS {
@@ -360,8 +370,10 @@ fn group(
 // Reads a model text into a draft: a word for each node, and for each name where it stands and how long it is.
 pub fn fill(text: &[u8], words: &mut [u32], starts: &mut [u16], lengths: &mut [u16]) -> Reading
     requires { ⌜ length (now text) ≤ textLimit ⌝ }
-    requires { ⌜ (nodeLimit ≤ length (now words)) × (nameCountLimit ≤ length (now starts)) × (nameCountLimit ≤ length (now lengths)) ⌝ }
-    ensures { λ r. ⌜ ReadingAnswer (now (text .entry)) r (now (words .exit)) (now (starts .exit)) (now (lengths .exit)) ⌝ }
+    requires { ⌜ (nodeLimit ≤ length (now words)) × (nameCountLimit ≤ length (now starts))
+        × (nameCountLimit ≤ length (now lengths)) ⌝ }
+    ensures { λ r. ⌜ ReadingAnswer (now (text .entry)) r
+        (now (words .exit)) (now (starts .exit)) (now (lengths .exit)) ⌝ }
 {
     let i = skip(text, 0);
     if i == text.len() {

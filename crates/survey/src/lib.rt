@@ -13,7 +13,8 @@ ghost use Rattle.slotset.specs.Members.{squareBytes};
 ghost use Rattle.survey.specs.Inner.Fours.{mark4, add4};
 ghost use Rattle.survey.specs.Inner.Finding.{isSequence, Stands, said, Tells, Found, Surveyed};
 
-// Of a node: where its words end, its next slot, whether the empty list is allowed, and which slots can stand first and last.
+// Of a node: where its words end, its next slot, whether the empty list is allowed, and which slots can stand first and
+// last.
 pub struct Survey {
     pub next: usize,
     pub slot: Slot,

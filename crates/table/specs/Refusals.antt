@@ -1,6 +1,5 @@
 -- When a table meets each of the refusals 11 to 17, "each over the whole table", and which is told (document 01,
--- "Numbers given
--- on refusal"). Assumes nothing.
+-- "Numbers given on refusal"). Assumes nothing.
 use mathlib.Core.List.{List, [], _∷_, _++_}
 use mathlib.Core.Path.{_≡_}
 use Prim.Native.Nat.{ℕ, zero, suc, _+_, _*_, _≤_, _<_}

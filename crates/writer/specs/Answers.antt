@@ -28,8 +28,8 @@ countedFigures (Refused f) = figuresOf f
 -- nodes, slots and names of the model that the table is of; or the first refusal that the table meets
 abbrev pub CountAnswer : Bytes → Counted → Type 0
 CountAnswer s (Counts c) =
-    (t : Tree Bytes) × Loads s t × (countedFigures (Counts c) ≡ figures 0 (nodes t) (length (leaves t))
-    (length (names t)))
+    (t : Tree Bytes) × Loads s t
+    × (countedFigures (Counts c) ≡ figures 0 (nodes t) (length (leaves t)) (length (names t)))
 CountAnswer s (Refused f) = Told s f
 
 -- in figures: 0 and the text's length; or the refusal
