@@ -21,7 +21,7 @@ use Rattle.table.specs.Refusals.{Fault, fault-11, fault-12, fault-13, fault-14,
 use Rattle.table.proofs.Lawful.{names-few}
 use Rattle.reader.proofs.Lawful.{read-lawful}
 use Rattle.packing.proofs.Longest.{table-length}
-use Rattle.reading.specs.Reads.{Told, fault-1, fault-2, of-text, ReadAnswer, outcomeFigures}
+use Rattle.reading.specs.Reads.{ReadRefused, fault-1, fault-2, of-text, ReadAnswer, outcomeFigures}
 use Rattle.reading.specs.declared.Outcome.{Outcome}
 use Rattle.reading.specs.declared.Outcome.the-variants.{Table, Refused as Unread}
 use Rattle.writer.specs.Answers.{WriteFault, of-table, fault-18, WriteAnswer, CountAnswer, writtenFigures}
@@ -113,7 +113,7 @@ children-fit (first h f) = child-fault-fits h (f .fault)
 
 not-passed-fits : {s : Bytes} {f : Refusal} → NotPassed s f → Fits (figuresOf f)
 not-passed-fits (refused r) = fault-fits (r .met)
-not-passed-fits (ambiguous {p = p} {x = x} {y = y} t l c) = clash-fits t (l .lawful .slots) (p .0) (x .0) (y .0) c
+not-passed-fits (ambiguous {p = p} {x = x} {y = y} t l c) = clash-fits t (l .lawful .within .slots) (p .0) (x .0) (y .0) c
 
 -- ---- the answers of each function
 text-fault-fits : {text : Bytes} {f : Refusal} → length text ≤ textLimit → Faults.Fault text f → Fits (figuresOf f)
@@ -126,7 +126,7 @@ text-fault-fits h (Faults.deep q l b n) = fits 6 q 0 0 (omega arith) (omega arit
 text-fault-fits h (Faults.slots q l b n) = fits 7 q 0 0 (omega arith) (omega arith) (omega arith) (omega arith)
 text-fault-fits h (Faults.nodes q l b n) = fits 8 q 0 0 (omega arith) (omega arith) (omega arith) (omega arith)
 
-read-refused-fits : {text room : Bytes} {f : Refusal} → Told text room f → Fits (figuresOf f)
+read-refused-fits : {text room : Bytes} {f : Refusal} → ReadRefused text room f → Fits (figuresOf f)
 read-refused-fits (fault-1 h) = fits 1 textLimit 0 0 (omega arith) (omega arith) (omega arith) (omega arith)
 read-refused-fits (fault-2 h l) = numbered 2 (omega arith)
 read-refused-fits (of-text a r) = text-fault-fits (a .short) (r .fault)
@@ -145,13 +145,13 @@ written-fits s room room′ (Unwritten f) h = write-fault-fits (h .0 .met)
 
 pub verdict-fits : (s : Bytes) (r : Verdict) → JudgeAnswer s r → Fits (verdictFigures r)
 verdict-fits s Deterministic h = numbered 0 (omega arith)
-verdict-fits s (Ambiguous p x y) h = clash-fits (h .0) (h .1 .lawful .slots) (p .0) (x .0) (y .0) (h .2)
+verdict-fits s (Ambiguous p x y) h = clash-fits (h .0) (h .1 .lawful .within .slots) (p .0) (x .0) (y .0) (h .2)
 verdict-fits s (Unjudged f) h = fault-fits (h .met)
 
 pub counted-fits : (s : Bytes) (r : Counted) → CountAnswer s r → Fits (countedFigures r)
 counted-fits s (Counts m) h =
-    let l = h .1 .lawful .small in
-    let k = h .1 .lawful .slots in
+    let l = h .1 .lawful .within .small in
+    let k = h .1 .lawful .within .slots in
     let n = names-few (h .0) (h .1 .lawful) in
     subst Fits (sym (h .2)) (fits 0 _ _ _ (omega arith) (omega arith) (omega arith) (omega arith))
 counted-fits s (Uncounted f) h = fault-fits (h .met)
@@ -163,7 +163,7 @@ match-refused-fits (by-children t p h r) = children-fit r
 
 module _ {s text : Bytes} {r : Matched} {u : List ℕ} (m : Answers s text r u) where
   slots-few : length (leaves (m .model)) ≤ slotLimit
-  slots-few = m .passed .loads .lawful .slots
+  slots-few = m .passed .loads .lawful .within .slots
 
   names-few-enough : length (m .names) ≤ childrenLimit
   names-few-enough = let a = words-few (m .words) in let b = m .short in omega arith
@@ -195,7 +195,7 @@ step-refused-fits (by-slot t p h) = numbered 26 (omega arith)
 
 pub stepped-fits : (s : Bytes) (k : ℕ) (name : Bytes) (r : Stepped) → StepAnswer s k name r → Fits (steppedFigures r)
 stepped-fits s k name (Goes x) h =
-    let f = next-few (h .model) (h .passed .loads .lawful .slots) _ (x .0) (h .says .next) in
+    let f = next-few (h .model) (h .passed .loads .lawful .within .slots) _ (x .0) (h .says .next) in
     fits 0 (x .0) 0 0 (omega arith) (omega arith) (omega arith) (omega arith)
 stepped-fits s k name Nowhere h = numbered 1 (omega arith)
 stepped-fits s k name (Unstepped f) h = step-refused-fits h

@@ -77,7 +77,7 @@ loaded-fits :
 loaded-fits s ws starts lengths n m t l d = record {
   here = d .drafted;
   numbers = below-more (length (names t)) nameCountLimit (numbers t) (names-few t (l .lawful)) (numbers-below t);
-  few = rw (leaves-count (λ a. index sameBytes a (names t)) t) (l .lawful .slots);
+  few = rw (leaves-count (λ a. index sameBytes a (names t)) t) (l .lawful .within .slots);
   small = numbers-small t (l .lawful);
 }
 

@@ -40,7 +40,7 @@ module _
     loads = m .loads;
     count = ap (λ z. z .nodes) (m .counted);
     some = l;
-    within = let k = slots-are in let b = m .loads .lawful .slots in let r = f .room in omega arith;
+    within = let k = slots-are in let b = m .loads .lawful .within .slots in let r = f .room in omega arith;
     number = number-here x l h;
   }
 

@@ -71,6 +71,6 @@ table-length t l =
     let f = firsts-sizes [] (leaves t) in
     let g = leaves-written t in
     let h = names-few t l in
-    let i = l .small in
+    let i = l .within .small in
     let j = l .text in
     omega arith

@@ -67,7 +67,7 @@ encode-bytes : (t : Tree Bytes) → Lawful t → AllBytes (encode t)
 encode-bytes t l =
     subst AllBytes (sym (table-bytes t l))
     (words-bytes (nodes t ∷ length (names t) ∷ Draft.words (numbers t)) (nameBytes (names t)) (
-      (let a = l .small in omega arith),
+      (let a = l .within .small in omega arith),
       ((let b = names-few t l in omega arith), words-small (numbers t) (numbers-values t l) (numbers-small t l)),
     )
     (names-bytewise (names t) (names-lawful t l)))
@@ -148,7 +148,7 @@ module _ (source : Bytes) (ws starts lengths : List ℕ) (c : Model) (room : Byt
   pub header-ready : (n < words) × (m < words) × Fits room 0 (headerFields n m)
   header-ready =
       let d = ready .drafted in
-      let a = ready .lawful .small in
+      let a = ready .lawful .within .small in
       let b = names-few (ready .tree) (ready .lawful) in
       let e = d .node-number in
       let f = d .name-number in

@@ -90,7 +90,7 @@ module _
     stops = λ s. weighs .stops s ∙ ap (λ r. ends r s) (slotted-same (λ a. index sameBytes a (names t)) t);
     nodes-are = ap (λ z. z .nodes) (m .counted);
     numbers-are = λ x l h. number-of x l (let e = slots-are in omega arith);
-    few = let k = slots-are in let f = m .loads .lawful .slots in omega arith;
+    few = let k = slots-are in let f = m .loads .lawful .within .slots in omega arith;
   }
   prepared (Clashing p x y) e =
       ambiguous t (m .loads)

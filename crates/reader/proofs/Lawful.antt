@@ -41,18 +41,8 @@ read-written r = sym (model-written (r .model))
 -- what is read is lawful
 pub read-lawful : {text : Bytes} {t : Tree Bytes} → length text ≤ textLimit → Reads text t → Lawful t
 read-lawful {text} {t} h r =
-    let w = reads-within r in
-    record {
-      group = w .group;
-      named = w .names;
-      deep = w .deep;
-      slots = w .slots;
-      small = w .small;
-      text = omega (arith, ap length (read-written r), strip-short text);
-    }
+    record { within = reads-within r; text = omega (arith, ap length (read-written r), strip-short text) }
 
 -- and a lawful model's text is read back
 pub lawful-read : {t : Tree Bytes} → Lawful t → Reads (written t) t
-lawful-read {t} l =
-    written-reads t
-    record { group = l .group; names = l .named; deep = l .deep; slots = l .slots; small = l .small }
+lawful-read {t} l = written-reads t (l .within)

@@ -16,13 +16,13 @@ use Rattle.reader.specs.Inner.Answers.{ReadingAnswer}
 use Rattle.reader.specs.declared.Reading.{Reading}
 use Rattle.reader.specs.declared.Reading.the-variants.{Refused, Filled}
 use Rattle.reader.proofs.Lawful.{read-lawful}
-use Rattle.reading.specs.Reads.{Admitted, Told, of-text, ReadAnswer}
+use Rattle.reading.specs.Reads.{Admitted, ReadRefused, of-text, ReadAnswer}
 use Rattle.reading.specs.declared.Outcome.the-variants.{Table}
 
 module _ {room : Bytes} {r : Reading} (text : Bytes) (ws starts lengths : List ℕ) (ok : Admitted text room)
     (answer : ReadingAnswer text r ws starts lengths) where
   -- the text was refused
-  pub draft-told : {f : Refusal} → r ≡ Refused f → Told text room f
+  pub draft-told : {f : Refusal} → r ≡ Refused f → ReadRefused text room f
   draft-told e = of-text ok (subst (λ x. ReadingAnswer text x ws starts lengths) e answer)
 
   -- its draft was filled

@@ -23,12 +23,12 @@ use Rattle.writer.specs.Answers.{WriteAnswer}
 use Rattle.writer.specs.declared.Written.{Written}
 use Rattle.writer.specs.declared.Written.the-variants.{Text}
 use Rattle.writer.proofs.Answers.{write-answer-unique}
-use Rattle.reading.specs.Reads.{Admitted, Told, fault-1, fault-2, of-text, ReadAnswer}
+use Rattle.reading.specs.Reads.{Admitted, ReadRefused, fault-1, fault-2, of-text, ReadAnswer}
 use Rattle.reading.specs.declared.Outcome.{Outcome}
 use Rattle.reading.specs.declared.Outcome.the-variants.{Table, Refused}
 
 -- one refusal only
-told-unique : {text room : Bytes} {f g : Refusal} → Told text room f → Told text room g → f ≡ g
+told-unique : {text room : Bytes} {f g : Refusal} → ReadRefused text room f → ReadRefused text room g → f ≡ g
 told-unique (fault-1 h) (fault-1 k) = refl
 told-unique (fault-1 h) (fault-2 k l) = absurd (omega arith)
 told-unique (fault-1 h) (of-text a k) = absurd (let l = a .short in omega arith)
@@ -41,7 +41,7 @@ told-unique (of-text a h) (of-text b k) = refused-unique h k
 
 -- what is read is not refused
 reads-not-told : {text room : Bytes} {t : Tree Bytes} {f : Refusal} → Reads text t → Admitted text room →
-    Told text room f → ⊥
+    ReadRefused text room f → ⊥
 reads-not-told r a (fault-1 h) = let l = a .short in omega arith
 reads-not-told r a (fault-2 h k) = let l = a .wide in omega arith
 reads-not-told r a (of-text b h) = reads-not-refused r h

@@ -29,10 +29,10 @@ pub record Admitted (text room : Bytes) : Type 0 where
   pub wide : tableRoom ≤ length room
 
 -- "Reading: 1, 2, then the least place among 3 to 8"
-pub data Told (text room : Bytes) : Refusal → Type 0 where
-  fault-1 : textLimit < length text → Told text room TextTooLong
-  fault-2 : length text ≤ textLimit → length room < tableRoom → Told text room TableRoom
-  of-text : {f : Refusal} → Admitted text room → Faults.Refused text f → Told text room f
+pub data ReadRefused (text room : Bytes) : Refusal → Type 0 where
+  fault-1 : textLimit < length text → ReadRefused text room TextTooLong
+  fault-2 : length text ≤ textLimit → length room < tableRoom → ReadRefused text room TableRoom
+  of-text : {f : Refusal} → Admitted text room → Faults.Refused text f → ReadRefused text room f
 
 -- the table of the model that the text is read as is written, n bytes long, and the bytes past it stay
 abbrev pub Tables : Bytes → Bytes → ℕ → Bytes → Type 0
@@ -42,4 +42,4 @@ Tables text room n room′ =
 -- so it is, and its length is told; or the refusal is told, and no byte changes
 abbrev pub ReadAnswer : Bytes → Bytes → Outcome → Bytes → Type 0
 ReadAnswer text room (Table n) room′ = Tables text room (outcomeFigures (Table n) .a) room′
-ReadAnswer text room (Refused f) room′ = Told text room f × (room′ ≡ room)
+ReadAnswer text room (Refused f) room′ = ReadRefused text room f × (room′ ≡ room)

@@ -61,7 +61,7 @@ module _ (source : Bytes) (ws starts lengths : List ℕ) (n m : ℕ) (t : Tree B
       small = numbers-small t l;
     };
     low = omega arith;
-    fits = omega (arith, l .slots, slots-many (λ a. index sameBytes a (names t)) t);
+    fits = omega (arith, l .within .slots, slots-many (λ a. index sameBytes a (names t)) t);
   }
 
   -- and its survey is that of the model

@@ -18,7 +18,7 @@ use Rattle.names.specs.Names.{Each, Name}
 use Rattle.names.proofs.Places.{split}
 use Rattle.table.specs.Fields.{allBits}
 use Rattle.table.specs.Encoding.{sameBytes, has, firsts, names, numbers, tableFields, encode}
-use Rattle.grammar.specs.Written.{written}
+use Rattle.grammar.specs.Written.{written, Within}
 use Rattle.table.specs.Models.{Lawful, Loads}
 use Rattle.table.specs.Refusals.{nodeCount, nameCount, Counted, Drawn, Named, Ordered, upto, model, Fault}
 use Rattle.table.specs.Refusals.{fault-11, fault-12, fault-13, fault-14, fault-15, fault-16, fault-17}
@@ -84,7 +84,7 @@ module _ (t : Tree Bytes) (lawful : Lawful t) where
       has-some (f .0) (names t) (f .1)
 
   pub names-few : length (names t) ≤ nameCountLimit
-  names-few = let h = firsts-length [] (leaves t) in omega (arith, lawful .slots)
+  names-few = let h = firsts-length [] (leaves t) in omega (arith, lawful .within .slots)
 
   pub numbers-values : Below values (numbers t)
   numbers-values = below-more (length (names t)) values (numbers t) (let l = names-few in omega arith) (numbers-below t)
@@ -93,16 +93,16 @@ module _ (t : Tree Bytes) (lawful : Lawful t) where
   numbers-size = size-nodes (numbers t) ∙ nodes-relabel (numberOf t) t
 
   pub numbers-small : length (words (numbers t)) < values
-  numbers-small = let e = numbers-size in let l = lawful .small in omega arith
+  numbers-small = let e = numbers-size in let l = lawful .within .small in omega arith
 
   pub names-lawful : Each Name (names t)
-  names-lawful = firsts-each sameBytes bytes-equality Name [] (leaves t) tt (lawful .named)
+  names-lawful = firsts-each sameBytes bytes-equality Name [] (leaves t) tt (lawful .within .names)
 
   pub table-bytes : encode t ≡ tableBytes t
   unfolding encode
   table-bytes =
       packed-whole (nodes t) (length (names t)) (numbers t) (names t) numbers-values numbers-small
-      (let l = lawful .small in omega arith) (let l = names-few in omega arith) names-lawful
+      (let l = lawful .within .small in omega arith) (let l = names-few in omega arith) names-lawful
 
   -- the table's bits are its fields, one behind the other
   pub table-bits : bitsOf (encode t) ≡ allBits (tableFields t)
@@ -114,7 +114,7 @@ module _ (t : Tree Bytes) (lawful : Lawful t) where
 
   encode-counted : Counted (tableBytes t)
   encode-counted =
-      let c = two-nodes t (lawful .group) in let d = names-some in let e = names-few in let f = lawful .small in
+      let c = two-nodes t (lawful .within .group) in let d = names-some in let e = names-few in let f = lawful .within .small in
       record { some-nodes = omega arith; few-nodes = omega arith; some-names = omega arith; few-names = omega arith }
 
   count-nodes : nodeCount (tableBytes t) ≡ nodes t
@@ -125,7 +125,7 @@ module _ (t : Tree Bytes) (lawful : Lawful t) where
 
   encode-drawn : Drawn (tableBytes t) (numbers t)
   encode-drawn = record {
-    group = group-relabel (numberOf t) t (lawful .group);
+    group = group-relabel (numberOf t) t (lawful .within .group);
     below = rw count-names (numbers-below t);
     number = nodes-relabel (numberOf t) t ∙ sym count-nodes;
     here = rw count-nodes (take-at (bytesOf (words (numbers t))) (nameBytes (names t)) (2 * nodes t) node-bytes
@@ -163,8 +163,8 @@ loads-sound s t h =
       drawn = encode-drawn t l;
       named = encode-named t l;
       order = rw (count-names t l) (numbers-order t);
-      deep = rw (depth-relabel (numberOf t) t) (l .deep);
-      slots = let a = l .slots in let b = length-map (leaves t) (numberOf t) in
+      deep = rw (depth-relabel (numberOf t) t) (l .within .deep);
+      slots = let a = l .within .slots in let b = length-map (leaves t) (numberOf t) in
           rw (leaves-relabel (numberOf t) t) (omega arith);
       text = rw (model-back t) (l .text);
     }
@@ -201,9 +201,9 @@ sound-loads s k ns b h =
     let e : names (model ns k) ≡ ns = model-names ns apart k below order in
     let f : numbers (model ns k) ≡ k = model-numbers ns apart k below order in
     let g : nodes (model ns k) ≡ nodeCount s = nodes-relabel (name ns apart) k ∙ h .drawn .number in
-    let lawful : Lawful (model ns k) = record {
+    let within : Within (model ns k) = record {
       group = group-relabel (name ns apart) k (h .drawn .group);
-      named = rw (leaves-relabel (name ns apart) k)
+      names = rw (leaves-relabel (name ns apart) k)
           (each-map (name ns apart) Name (leaves k)
           (each-imp (λ i. i < length ns) (λ i. Name (getD ns i [])) (leaves k)
           (λ i l. each-at Name ns i [] (h .named .lawful) l) below));
@@ -211,8 +211,8 @@ sound-loads s k ns b h =
       slots = let a = h .slots in let c = length-map (leaves k) (name ns apart) in
           rw (leaves-relabel (name ns apart) k) (omega arith);
       small = let c = h .counted .few-nodes in omega arith;
-      text = h .text;
     } in
+    let lawful : Lawful (model ns k) = record { within = within; text = h .text } in
     let small : length (words k) < values = let z = size-nodes k in let y = h .drawn .number in
     let c = h .counted .few-nodes in omega arith in
     let here : take (2 * nodeCount s) (drop 4 s) ≡ bytesOf (words k) = h .drawn .here

@@ -2,21 +2,16 @@
 use mathlib.Core.Path.{_≡_}
 use Prim.Native.Nat.{_≤_}
 use lib.ListN.{length}
-use Rattle.model.specs.Limits.{textLimit, groupLimit, slotLimit, nodeLimit}
+use Rattle.model.specs.Limits.{textLimit}
 use Rattle.model.specs.declared.Model.{Model}
-use Rattle.meaning.specs.Trees.{Tree, Group, leaves, depth, nodes}
+use Rattle.meaning.specs.Trees.{Tree, leaves, nodes}
 use Rattle.names.specs.Bytes.{Bytes}
-use Rattle.names.specs.Names.{Each, Name}
 use Rattle.table.specs.Encoding.{names, encode}
-use Rattle.grammar.specs.Written.{written}
+use Rattle.grammar.specs.Written.{written, Within}
 
--- "The outermost thing is a group", its names are names, and no limit is passed
+-- within the limits, and so is its text
 pub record Lawful (t : Tree Bytes) : Type 0 where
-  pub group : Group t
-  pub named : Each Name (leaves t)
-  pub deep : depth t ≤ groupLimit
-  pub slots : length (leaves t) ≤ slotLimit
-  pub small : nodes t ≤ nodeLimit
+  pub within : Within t
   pub text : length (written t) ≤ textLimit
 
 -- the table is that of this lawful model

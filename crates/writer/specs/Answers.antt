@@ -14,23 +14,23 @@ use Rattle.names.specs.Bytes.{Bytes}
 use Rattle.grammar.specs.Written.{written}
 use Rattle.table.specs.Encoding.{names}
 use Rattle.table.specs.Models.{Loads}
-use Rattle.table.specs.Refusals.{Fault, First, Refused as Told}
+use Rattle.table.specs.Refusals.{Fault, First, Refused}
 use Rattle.writer.specs.declared.Counted.{Counted}
-use Rattle.writer.specs.declared.Counted.the-variants.{Counts, Refused}
+use Rattle.writer.specs.declared.Counted.the-variants.{Counts, Refused as Uncounted}
 use Rattle.writer.specs.declared.Written.{Written}
 use Rattle.writer.specs.declared.Written.the-variants.{Text, Refused as Unwritten}
 
 -- in figures: 0 and nodes, slots, names; or the refusal
 abbrev pub countedFigures : Counted → Figures
 countedFigures (Counts c) = figures 0 (c .nodes) (c .slots) (c .names)
-countedFigures (Refused f) = figuresOf f
+countedFigures (Uncounted f) = figuresOf f
 
 -- nodes, slots and names of the model that the table is of; or the first refusal that the table meets
 abbrev pub CountAnswer : Bytes → Counted → Type 0
 CountAnswer s (Counts c) =
     (t : Tree Bytes) × Loads s t
     × (countedFigures (Counts c) ≡ figures 0 (nodes t) (length (leaves t)) (length (names t)))
-CountAnswer s (Refused f) = Told s f
+CountAnswer s (Uncounted f) = Refused s f
 
 -- in figures: 0 and the text's length; or the refusal
 abbrev pub writtenFigures : Written → Figures

@@ -9,11 +9,11 @@ use Rattle.model.specs.Limits.{textLimit}
 use Rattle.model.specs.declared.Refusal.the-variants.{BadNodes, BadNames, BadOrder, TooLarge, WrittenTooLong}
 use Rattle.meaning.specs.Trees.{Tree}
 use Rattle.names.specs.Bytes.{Bytes}
-use Rattle.table.specs.Refusals.{nodeCount, nameCount, Counted, Drawn, Named, Fault, Refused as Told}
+use Rattle.table.specs.Refusals.{nodeCount, nameCount, Counted, Drawn, Named, Fault, Refused}
 use Rattle.table.specs.Inner.Draft.{AllPlaced}
 use Rattle.table.specs.Inner.Tests.{rows, leavesOf, ordered, large, total}
 use Rattle.loader.specs.declared.Loaded.{Loaded}
-use Rattle.loader.specs.declared.Loaded.the-variants.{Draft, Refused}
+use Rattle.loader.specs.declared.Loaded.the-variants.{Draft, Refused as Unloaded}
 use Rattle.loader.specs.declared.Header.{Header}
 use Rattle.loader.specs.declared.Header.the-variants.{Counts, Stop}
 
@@ -26,7 +26,7 @@ pub record Headed (s : Bytes) (n m : ℕ) : Type 0 where
 
 abbrev pub HeaderAnswer : Bytes → Header → Type 0
 HeaderAnswer s (Counts n m) = Headed s n m
-HeaderAnswer s (Stop f) = Told s f
+HeaderAnswer s (Stop f) = Refused s f
 
 -- the nodes are a tree, and these are its words; or they are none
 abbrev pub NodesAnswer : Bytes → ℕ → Bool → List ℕ → Type 0
@@ -42,7 +42,7 @@ NamesAnswer s false starts lengths = Fault s BadNames
 unfoldable pub restOf : (ℕ → ℕ) → ℕ → List ℕ → Loaded
 restOf f m ws =
     cond (ordered m 0 (leavesOf ws))
-    (cond (large ws) (Refused TooLarge)
-    (cond (ltb textLimit (total f ws)) (Refused WrittenTooLong)
+    (cond (large ws) (Unloaded TooLarge)
+    (cond (ltb textLimit (total f ws)) (Unloaded WrittenTooLong)
     (Draft (record { nodes = length ws; slots = length (leavesOf ws); names = m }))))
-    (Refused BadOrder)
+    (Unloaded BadOrder)

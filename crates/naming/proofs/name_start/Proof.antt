@@ -19,10 +19,10 @@ abbrev μ-loop : tie.MeasureT-loop
 μ-loop table nodes i at₀ j₀ at j = i .0 - j
 
 mul-at : tie.Need-mul-at Inv-loop μ-loop
-mul-at c = let l = c .before .pre .1 .loads .lawful .small in let k = c .before .pre .1 .count in omega arith
+mul-at c = let l = c .before .pre .1 .loads .lawful .within .small in let k = c .before .pre .1 .count in omega arith
 
 add-at : tie.Need-add-at Inv-loop μ-loop
-add-at c = let l = c .before .pre .1 .loads .lawful .small in let k = c .before .pre .1 .count in omega arith
+add-at c = let l = c .before .pre .1 .loads .lawful .within .small in let k = c .before .pre .1 .count in omega arith
 
 loop-holds : tie.Need-loop-holds Inv-loop μ-loop
 loop-holds c = (
