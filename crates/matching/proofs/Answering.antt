@@ -1,4 +1,4 @@
--- From a walk to the answer on the children. Assumes nothing. 
+-- From a walk to the answer on the children. Assumes nothing.
 use mathlib.Core.Bool.{Bool, true, false, true≢false}
 use mathlib.Core.List.{List, [], _∷_, _++_}
 use mathlib.Core.Path.{_≡_, sym, ap, ap₂, subst, _∙_}

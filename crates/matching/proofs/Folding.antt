@@ -1,4 +1,4 @@
--- A whole list equals its steps, each from the slot before: of the step's own promise (demand 3). Assumes nothing. 
+-- A whole list equals its steps, each from the slot before: of the step's own promise (demand 3). Assumes nothing.
 use mathlib.Core.List.{List, _++_, map}
 use mathlib.Core.Logic.{_↔_}
 use mathlib.Core.Path.{_≡_, subst}

@@ -1,4 +1,4 @@
--- The name part is one only: its place, and so its bytes and where it points. Assumes nothing. 
+-- The name part is one only: its place, and so its bytes and where it points. Assumes nothing.
 use mathlib.Core.List.{List, []}
 use mathlib.Core.Path.{_≡_, refl, sym, ap, ap₂, subst, _∙_}
 use Prim.Native.Nat.{ℕ, zero, suc, _+_, _-_, _≤_}

@@ -1,4 +1,4 @@
--- Where the name part stands, by the walk over the children; and that it stands within what was lent. Assumes nothing. 
+-- Where the name part stands, by the walk over the children; and that it stands within what was lent. Assumes nothing.
 use mathlib.Core.Bool.{Bool, true, false}
 use mathlib.Core.List.{List, []}
 use mathlib.Core.Path.{_≡_, sym, subst}

@@ -1,4 +1,4 @@
--- Matching and a single step have one answer only, and leave one room only. Assumes nothing. 
+-- Matching and a single step have one answer only, and leave one room only. Assumes nothing.
 use mathlib.Core.List.{List, _++_, append-assoc}
 use mathlib.Core.Path.{_≡_, refl, sym, ap, ap₂, subst, _∙_}
 use Prim.Native.Nat.{ℕ, _-_, _≤_, _<_}

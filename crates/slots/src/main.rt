@@ -1,7 +1,6 @@
 // The program `slots`: reads a model up to the first line feed, then child text, and prints what they come to.
 ghost use Prim.Native.Nat.{_≤_};
 ghost use lib.ListN.{length};
-ghost use Rattle.slots.specs.Lines.{LineEnd};
 use libc::STDOUT_FILENO;
 use matching::Matched;
 use model::Model;
@@ -121,26 +120,12 @@ fn put_answer(text: &[u8], children: &[u8]) {
     }
 }
 
-// Where the first line feed stands; the length where there is none.
-fn line_end(text: &[u8]) -> usize
-    ensures { λ r. ⌜ LineEnd (now (text .entry)) r ⌝ }
-{
-    let mut i = 0;
-    while i < text.len() {
-        if text[i] == b'\n' {
-            return i;
-        }
-        i += 1;
-    }
-    i
-}
-
 // 20,482 bytes tell all: a model text, the line feed, and a child text that is one byte too long.
 fn main() {
     let mut buf = io::large_buffer();
     let n = io::read_full(0, &mut buf);
     let input = &buf[..n];
-    let end = line_end(input);
+    let end = lines::line_end(input);
     if end < input.len() {
         let from = end + 1;
         put_answer(&input[0..end], &input[from..]);

@@ -1,12 +1,12 @@
--- `slots::line_end` meets its contract: no line feed stands before i. Assumes nothing.
+-- `lines::line_end` meets its contract: no line feed stands before i. Assumes nothing.
 use borrow.Author.Needs.{needs}
 use mathlib.Core.Path.{_≡_, subst}
 use Prim.Native.Nat.{ℕ, _-_, _≤_, _<_}
 use native.Mathlib.Omega.{arith}
 use native.Mathlib.Decide.{ℕ-discrete}
 use lib.ListN.{length, getD}
-use Rattle.slots.proofs.line_end.Statement.{statement}
-use Rattle.slots.proofs.line_end.Tie as tie
+use Rattle.lines.proofs.line_end.Statement.{statement}
+use Rattle.lines.proofs.line_end.Tie as tie
 
 abbrev Inv-loop : tie.InvT-loop
 Inv-loop text i₀ i = (i ≤ length text) × ((j : ℕ) → j < i → getD text j 0 ≡ 10 → ⊥)
