@@ -12,12 +12,6 @@ ghost use Rattle.table.specs.Inner.Tests.{large, cost, total};
 use model::Model;
 use model::NameNumber;
 
-fn wide16(x: u16) -> usize
-    ensures { λ r. ⌜ (r ≡ x) × (r < 65536) ⌝ }
-{
-    x as usize
-}
-
 // ---- 13: one whole tree under a group
 // May a node be so, where there are m names?
 fn is_fine(w: u32, m: usize) -> bool
@@ -179,7 +173,7 @@ fn length_of(lengths: &[u16], n: NameNumber) -> usize
 {
     let i = n.0;
     if i < lengths.len() {
-        return wide16(lengths[i]);
+        return model::wide(lengths[i]);
     }
     0
 }

@@ -34,17 +34,17 @@ use Rattle.verdict.specs.declared.Verdict.{Verdict}
 use Rattle.verdict.specs.declared.Verdict.the-variants.{Deterministic, Ambiguous, Refused as Unjudged}
 use Rattle.placing.specs.Passed.{NotPassed, refused, ambiguous}
 use Rattle.matching.specs.Matches.{Answers, MatchRefused, by-model, by-room, by-children, MatchAnswer}
-use Rattle.matching.specs.Steps.{StepRefused, by-slot, StepAnswer, steppedFigures}
-use Rattle.matching.specs.Steps
-use Rattle.matching.specs.Parts.{partFigures, PartWhere, stopped, short, short-at-start, allowed, bad-children}
-use Rattle.matching.specs.Parts
+use Rattle.stepping.specs.Steps.{StepRefused, by-slot, StepAnswer, steppedFigures}
+use Rattle.stepping.specs.Steps
+use Rattle.parting.specs.Parts.{partFigures, PartWhere, stopped, short, short-at-start, allowed, bad-children}
+use Rattle.parting.specs.Parts
 use Rattle.matching.specs.declared.Matched.{Matched}
 use Rattle.matching.specs.declared.Matched.the-variants.{Allowed, Stopped, Short, Refused as Unmatched}
-use Rattle.matching.specs.declared.Stepped.{Stepped}
-use Rattle.matching.specs.declared.Stepped.the-variants.{Next as Goes, Nowhere, Refused as Unstepped}
-use Rattle.matching.specs.declared.Part.{Part}
-use Rattle.matching.specs.declared.Part.the-variants.{OfChildren, OfTable, AtEnd}
-use Rattle.matching.proofs.Parting.{part-children, part-table}
+use Rattle.stepping.specs.declared.Stepped.{Stepped}
+use Rattle.stepping.specs.declared.Stepped.the-variants.{Next as Goes, Nowhere, Refused as Unstepped}
+use Rattle.parting.specs.declared.Part.{Part}
+use Rattle.parting.specs.declared.Part.the-variants.{OfChildren, OfTable, AtEnd}
+use Rattle.parting.proofs.Parting.{part-children, part-table}
 use Rattle.writer.specs.Answers.{countedFigures}
 use Rattle.matching.specs.Matches.{matchedFigures}
 use Rattle.telling.specs.Inner.Forward.{Forward}
@@ -113,7 +113,8 @@ children-fit (first h f) = child-fault-fits h (f .fault)
 
 not-passed-fits : {s : Bytes} {f : Refusal} → NotPassed s f → Fits (figuresOf f)
 not-passed-fits (refused r) = fault-fits (r .met)
-not-passed-fits (ambiguous {p = p} {x = x} {y = y} t l c) = clash-fits t (l .lawful .within .slots) (p .0) (x .0) (y .0) c
+not-passed-fits (ambiguous {p = p} {x = x} {y = y} t l c) =
+    clash-fits t (l .lawful .within .slots) (p .0) (x .0) (y .0) c
 
 -- ---- the answers of each function
 text-fault-fits : {text : Bytes} {f : Refusal} → length text ≤ textLimit → Faults.Fault text f → Fits (figuresOf f)

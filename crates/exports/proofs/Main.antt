@@ -11,10 +11,11 @@ use Rattle.writer.proofs.Answers.{write-answer-unique, count-answer-unique}
 use Rattle.verdict.specs.Verdicts.{JudgeAnswer, verdictFigures}
 use Rattle.verdict.proofs.Main.{judge-unique}
 use Rattle.matching.specs.Matches.{MatchAnswer, matchedFigures}
-use Rattle.matching.specs.Steps.{StepAnswer, steppedFigures}
-use Rattle.matching.specs.Parts.{PartWhere, partFigures}
-use Rattle.matching.proofs.Unique.{match-unique, step-answer-unique}
-use Rattle.matching.proofs.PartUnique.{part-unique}
+use Rattle.stepping.specs.Steps.{StepAnswer, steppedFigures}
+use Rattle.parting.specs.Parts.{PartWhere, partFigures}
+use Rattle.matching.proofs.Unique.{match-unique}
+use Rattle.stepping.proofs.Unique.{step-answer-unique}
+use Rattle.parting.proofs.Unique.{part-unique}
 use Rattle.exports.specs.Codes.{packed}
 use Rattle.exports.specs.Told.{Told}
 use Rattle.model.specs.declared.Figures.{Figures}

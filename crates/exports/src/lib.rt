@@ -5,8 +5,8 @@ ghost use Rattle.reading.specs.Reads.{ReadAnswer, outcomeFigures};
 ghost use Rattle.writer.specs.Answers.{WriteAnswer, CountAnswer, writtenFigures, countedFigures};
 ghost use Rattle.verdict.specs.Verdicts.{JudgeAnswer, verdictFigures};
 ghost use Rattle.matching.specs.Matches.{MatchAnswer, matchedFigures};
-ghost use Rattle.matching.specs.Steps.{StepAnswer, steppedFigures};
-ghost use Rattle.matching.specs.Parts.{PartWhere, partFigures};
+ghost use Rattle.stepping.specs.Steps.{StepAnswer, steppedFigures};
+ghost use Rattle.parting.specs.Parts.{PartWhere, partFigures};
 ghost use Rattle.exports.specs.Codes.{packed};
 ghost use Rattle.exports.specs.Told.{Told};
 ghost use Rattle.exports.specs.Inner.Fitting.{Fits};
@@ -77,7 +77,7 @@ pub extern "C" fn slots_match(table: &[u8], children: &[u8], slots: &mut [u8]) -
 pub extern "C" fn slots_step(table: &[u8], slot: usize, name: &[u8]) -> u64
     ensures { λ n. ⌜ Told (StepAnswer (now (table .entry)) slot (now (name .entry))) steppedFigures n ⌝ }
 {
-    let r = matching::step(table, Slot(slot), name);
+    let r = stepping::step(table, Slot(slot), name);
     pack(telling::stepped_figures(r))
 }
 
@@ -86,6 +86,6 @@ pub extern "C" fn slots_step(table: &[u8], slot: usize, name: &[u8]) -> u64
 pub extern "C" fn slots_part(table: &[u8], children: &[u8]) -> u64
     ensures { λ n. ⌜ Told (PartWhere (now (table .entry)) (now (children .entry))) partFigures n ⌝ }
 {
-    let r = matching::part_of(table, children);
+    let r = parting::part_of(table, children);
     pack(telling::part_figures(r))
 }

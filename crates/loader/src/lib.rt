@@ -1,18 +1,14 @@
 // Loads a table: the model that it is of, as a draft in memory, or the first refusal that it meets.
-ghost use mathlib.Core.Bool.{true};
 ghost use mathlib.Core.Path.{_≡_};
-ghost use Prim.Native.Nat.{ℕ, _+_, _*_, _<_, _≤_};
+ghost use Prim.Native.Nat.{_+_, _*_, _≤_};
 ghost use lib.ListN.{length, getD, take, drop};
 ghost use Rattle.fields.specs.Bits.{fieldAt, Room};
 ghost use Rattle.model.specs.Limits.{nodeLimit, nameCountLimit};
-ghost use Rattle.table.specs.Encoding.{sameBytes};
-ghost use Rattle.table.specs.Inner.Draft.{nameAt, Stands, AllPlaced};
-ghost use Rattle.table.specs.Inner.Tests.{wordsOf, tidy, cut, apart, namesOf};
+ghost use Rattle.table.specs.Inner.Tests.{wordsOf};
 ghost use Rattle.loader.specs.Answers.{LoadAnswer};
 ghost use Rattle.loader.specs.Inner.Parts.{Headed, HeaderAnswer, NodesAnswer, NamesAnswer, restOf};
 use fields::Bits;
 use model::Model;
-use model::NameNumber;
 use model::Refusal;
 
 pub enum Loaded {
@@ -26,18 +22,6 @@ enum Header {
     Stop(Refusal),
 }
 
-fn wide(x: u8) -> usize
-    ensures { λ r. ⌜ (r ≡ x) × (r < 256) ⌝ }
-{
-    x as usize
-}
-
-fn wide16(x: u16) -> usize
-    ensures { λ r. ⌜ (r ≡ x) × (r < 65536) ⌝ }
-{
-    x as usize
-}
-
 // ---- 11 and 12: the header
 // The count of 16 bits at bit k.
 fn count_at(table: &[u8], k: usize) -> usize
@@ -46,7 +30,7 @@ fn count_at(table: &[u8], k: usize) -> usize
 {
     let c = Bits { at: k };
     let f = c.take(table, 16);
-    wide16(f.value)
+    model::wide(f.value)
 }
 
 // The counts of nodes and names.
@@ -118,76 +102,6 @@ fn nodes_of(table: &[u8], words: &mut [u32], n: usize, m: usize) -> bool
 }
 
 // ---- 14: the names
-// Are there m names from `from` on, and nothing more? Where each starts and how long it is goes into starts and
-// lengths.
-fn take_names(table: &[u8], from: usize, m: usize, starts: &mut [u16], lengths: &mut [u16]) -> bool
-    requires { ⌜ (from ≤ 4 + 2 * nodeLimit)
-        × ((from ≤ length (now table))
-        × ((m ≤ nameCountLimit)
-        × ((length (now starts) ≡ nameCountLimit) × (length (now lengths) ≡ nameCountLimit)))) ⌝ }
-    ensures { λ r. ⌜ (r ≡ tidy m (drop from (now (table .entry))))
-        × (r ≡ true →
-        AllPlaced (now (table .entry)) (now (starts .exit)) (now (lengths .exit))
-        (cut m (drop from (now (table .entry)))) m) ⌝ }
-{
-    let mut at = from;
-    let mut j = 0;
-    while j < m {
-        if table.len() <= at {
-            return false;
-        }
-        let n = wide(table[at]);
-        let a = at + 1;
-        if table.len() - a < n {
-            return false;
-        }
-        let e = a + n;
-        if !names::is_name(&table[a..e]) {
-            return false;
-        }
-        starts[j] = a as u16;
-        lengths[j] = n as u16;
-        at = e;
-        j += 1;
-    }
-    at == table.len()
-}
-
-// Are the names of numbers m and n equal?
-fn same_at(table: &[u8], starts: &[u16], lengths: &[u16], m: NameNumber, n: NameNumber) -> bool
-    requires { ⌜ Stands (now table) (now starts) (now lengths) (m .0)
-        × Stands (now table) (now starts) (now lengths) (n .0) ⌝ }
-    ensures { λ r. ⌜ r ≡ sameBytes (nameAt (now (table .entry)) (now (starts .entry)) (now (lengths .entry)) (m .0))
-        (nameAt (now (table .entry)) (now (starts .entry)) (now (lengths .entry)) (n .0)) ⌝ }
-{
-    let i = m.0;
-    let j = n.0;
-    let a = wide16(starts[i]);
-    let b = a + wide16(lengths[i]);
-    let c = wide16(starts[j]);
-    let d = c + wide16(lengths[j]);
-    names::same(&table[a..b], &table[c..d])
-}
-
-// Are no two of the first m names equal?
-fn all_apart(table: &[u8], starts: &[u16], lengths: &[u16], m: usize) -> bool
-    requires { ⌜ ((v : ℕ) → v < m → Stands (now table) (now starts) (now lengths) v) ⌝ }
-    ensures { λ r. ⌜ r ≡ apart (namesOf (now (table .entry)) (now (starts .entry)) (now (lengths .entry)) 0 m) ⌝ }
-{
-    let mut i = 0;
-    while i < m {
-        let mut j = i + 1;
-        while j < m {
-            if same_at(table, starts, lengths, NameNumber(i), NameNumber(j)) {
-                return false;
-            }
-            j += 1;
-        }
-        i += 1;
-    }
-    true
-}
-
 // Are the bytes behind the nodes m distinct names? Fills in where they stand.
 fn names_of(table: &[u8], starts: &mut [u16], lengths: &mut [u16], n: usize, m: usize) -> bool
     requires { ⌜ (length (now starts) ≡ nameCountLimit)
@@ -195,10 +109,10 @@ fn names_of(table: &[u8], starts: &mut [u16], lengths: &mut [u16], n: usize, m: 
         ⌝ }
     ensures { λ r. ⌜ NamesAnswer (now (table .entry)) r (now (starts .exit)) (now (lengths .exit)) ⌝ }
 {
-    if !take_names(table, 4 + 2 * n, m, starts, lengths) {
+    if !listing::take_names(table, 4 + 2 * n, m, starts, lengths) {
         return false;
     }
-    if !all_apart(table, starts, lengths, m) {
+    if !listing::all_apart(table, starts, lengths, m) {
         return false;
     }
     true

@@ -1,4 +1,4 @@
--- Matching and a single step have one answer only, and leave one room only. Assumes nothing.
+-- Matching has one answer only, and leaves one room only. Assumes nothing.
 use mathlib.Core.List.{List, _++_, append-assoc}
 use mathlib.Core.Path.{_≡_, refl, sym, ap, ap₂, subst, _∙_}
 use Prim.Native.Nat.{ℕ, _-_, _≤_, _<_}
@@ -8,22 +8,18 @@ use lib.ListN.{length, take, drop, take-append-drop}
 use lib.Seq.{take-take}
 use Rattle.model.specs.Limits.{slotRoom}
 use Rattle.model.specs.declared.Refusal.{Refusal}
-use Rattle.meaning.specs.Trees.{Tree, leaves}
+use Rattle.meaning.specs.Trees.{Tree}
 use Rattle.meaning.specs.Lists.{Allowed, Begins}
 use Rattle.meaning.specs.Clashes.{ending, Ambiguous}
-use Rattle.meaning.specs.Runs.{Marks, Step}
-use Rattle.meaning.proofs.Runs.{held-begins, marks-unique, step-unique}
+use Rattle.meaning.specs.Runs.{Marks}
+use Rattle.meaning.proofs.Runs.{held-begins, marks-unique}
 use Rattle.names.specs.Bytes.{Bytes}
 use Rattle.children.proofs.Main.{words-unique, words-not-refused, refused-unique as children-unique}
 use Rattle.placing.proofs.Main.{slot-unique, passed-unique, passed-free, not-passed-unique}
 use Rattle.matching.specs.Matches.{Says, Answers, MatchRefused, by-model, by-room, by-children, Placed}
 use Rattle.matching.specs.Matches.{MatchAnswer}
-use Rattle.matching.specs.Steps.{StepRefused, by-slot, From, StepAnswer}
-use Rattle.matching.specs.Steps
 use Rattle.matching.specs.declared.Matched.{Matched}
 use Rattle.matching.specs.declared.Matched.the-variants.{Allowed as IsAllowed, Stopped, Short, Refused as Stop}
-use Rattle.matching.specs.declared.Stepped.{Stepped}
-use Rattle.matching.specs.declared.Stepped.the-variants.{Next, Nowhere, Refused as Refuse}
 
 -- ---- the answer on a model
 module _ (t : Tree Bytes) where
@@ -130,37 +126,3 @@ module _ (table children : Bytes) where
   match-unique before (Short n s) (IsAllowed m) x y a b = placed-unique before (Short n s) (IsAllowed m) x y a b
   match-unique before (Short n s) (Stopped k r) x y a b = placed-unique before (Short n s) (Stopped k r) x y a b
   match-unique before (Short n s) (Short m r) x y a b = placed-unique before (Short n s) (Short m r) x y a b
-
--- ---- a single step
-module _ (table : Bytes) (s : ℕ) (a : Bytes) where
-  step-refused-unique : {f g : Refusal} → StepRefused table s f → StepRefused table s g → f ≡ g
-  step-refused-unique (Steps.by-model p) (Steps.by-model q) = not-passed-unique table p q
-  step-refused-unique (Steps.by-model p) (by-slot t q l) = absurd (passed-free table t q p)
-  step-refused-unique (by-slot t p l) (Steps.by-model q) = absurd (passed-free table t p q)
-  step-refused-unique (by-slot t p l) (by-slot u q m) = refl
-
-  step-free : {f : Refusal} (P : Tree Bytes → Type 0) → From table s P → StepRefused table s f → ⊥
-  step-free P h (Steps.by-model p) = passed-free table (h .model) (h .passed) p
-  step-free P h (by-slot t p l) =
-      let e = passed-unique table t (h .model) p (h .passed) in
-      let m : length (leaves (h .model)) < s = subst (λ u. length (leaves u) < s) e l in
-      omega (arith, h .within)
-
-  -- any two answers that a step permits are the same
-  pub step-answer-unique : (q r : Stepped) → StepAnswer table s a q → StepAnswer table s a r → q ≡ r
-  step-answer-unique (Next x) (Next y) h k =
-      let e = passed-unique table (k .model) (h .model) (k .passed) (h .passed) in
-      ap Next (slot-unique x y (step-unique (h .model) (h .passed .clear) s a (x .0) (y .0) (h .says)
-      (subst (λ t. Step t s a (y .0)) e (k .says))))
-  step-answer-unique (Next x) Nowhere h k =
-      let e = passed-unique table (h .model) (k .model) (h .passed) (k .passed) in
-      absurd (k .says (x .0) (subst (λ t. Step t s a (x .0)) e (h .says)))
-  step-answer-unique (Next x) (Refuse f) h k = absurd (step-free (λ t. Step t s a (x .0)) h k)
-  step-answer-unique Nowhere (Next y) h k =
-      let e = passed-unique table (k .model) (h .model) (k .passed) (h .passed) in
-      absurd (h .says (y .0) (subst (λ t. Step t s a (y .0)) e (k .says)))
-  step-answer-unique Nowhere Nowhere h k = refl
-  step-answer-unique Nowhere (Refuse f) h k = absurd (step-free (λ t. (x : ℕ) → Step t s a x → ⊥) h k)
-  step-answer-unique (Refuse f) (Next y) h k = absurd (step-free (λ t. Step t s a (y .0)) k h)
-  step-answer-unique (Refuse f) Nowhere h k = absurd (step-free (λ t. (x : ℕ) → Step t s a x → ⊥) k h)
-  step-answer-unique (Refuse f) (Refuse g) h k = ap Refuse (step-refused-unique h k)

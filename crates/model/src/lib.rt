@@ -1,6 +1,9 @@
-// The types that every crate shares: slots and name numbers, the nodes of a model, its limits, and the refusals.
+// The types that every crate shares: slots and name numbers, the nodes of a model, its limits, the refusals,
+// and answers in figures.
 ghost use mathlib.Core.Path.{_≡_};
-ghost use Rattle.model.specs.Refusals.{numberOf, placeOf};
+ghost use Prim.Native.Nat.{_<_};
+ghost use Rattle.model.specs.Figures.{figures};
+ghost use Rattle.model.specs.Refusals.{numberOf, placeOf, figuresOf};
 
 // One occurrence of a name in a model, from 1, left to right. Slot 0 is the start.
 pub struct Slot(pub usize);
@@ -68,6 +71,14 @@ pub struct Figures {
     pub a: usize,
     pub b: usize,
     pub c: usize,
+}
+
+impl Figures {
+    pub fn new(number: usize, a: usize, b: usize, c: usize) -> Figures
+        ensures { λ r. ⌜ r ≡ figures number a b c ⌝ }
+    {
+        Figures { number, a, b, c }
+    }
 }
 
 // Why something was refused. The place is held where it varies.
@@ -156,4 +167,28 @@ impl Refusal {
             Refusal::NoSuchSlot => 0,
         }
     }
+
+    // In figures: its number and its place; with 24 p, x, y.
+    pub fn figures(self) -> Figures
+        ensures { λ r. ⌜ r ≡ figuresOf self ⌝ }
+    {
+        let number = self.number();
+        if let Refusal::Ambiguous(p, x, y) = self {
+            return Figures::new(number, p.0, x.0, y.0);
+        }
+        Figures::new(number, self.place(), 0, 0)
+    }
+}
+
+// Two bytes, and one, as a number that counts or indexes.
+pub fn wide(x: u16) -> usize
+    ensures { λ r. ⌜ (r ≡ x) × (r < 65536) ⌝ }
+{
+    x as usize
+}
+
+pub fn wide_byte(x: u8) -> usize
+    ensures { λ r. ⌜ (r ≡ x) × (r < 256) ⌝ }
+{
+    x as usize
 }

@@ -11,7 +11,7 @@ use Rattle.names.specs.Bytes.{Bytes}
 use Rattle.table.specs.Models.{Loads}
 use Rattle.table.proofs.Main.{loads-unique, loads-free}
 use Rattle.naming.specs.Places.{IsPart, nameStart, numberAt}
-use Rattle.naming.specs.SlotNames.{IsSlot, NameStands, stands, no-slot, refused, NameAnswer}
+use Rattle.naming.specs.SlotNames.{HasSlot, NameStands, stands, no-slot, refused, NameAnswer}
 use Rattle.naming.proofs.Places.{slot-bytes}
 
 -- the same bytes, in one block, at one place
@@ -36,10 +36,10 @@ stands-unique table s a e b f (stands t l i p q) (stands u m j v w) =
     let d : length (named t s) ≡ length (named u s) = ap (λ z. length (named z s)) g in
     (c, omega arith)
 stands-unique table s a e b f (stands t l i p q) (no-slot u m n v w) =
-    absurd (n (subst (λ z. IsSlot z s) (loads-unique table t u l m) i))
+    absurd (n (subst (λ z. HasSlot z s) (loads-unique table t u l m) i))
 stands-unique table s a e b f (stands t l i p q) (refused r v w) = absurd (loads-free table t l _ r)
 stands-unique table s a e b f (no-slot t l n p q) (stands u m j v w) =
-    absurd (n (subst (λ z. IsSlot z s) (loads-unique table u t m l) j))
+    absurd (n (subst (λ z. HasSlot z s) (loads-unique table u t m l) j))
 stands-unique table s a e b f (no-slot t l n p q) (no-slot u m o v w) = (p ∙ sym v, q ∙ sym w)
 stands-unique table s a e b f (no-slot t l n p q) (refused r v w) = (p ∙ sym v, q ∙ sym w)
 stands-unique table s a e b f (refused r p q) (stands u m j v w) = absurd (loads-free table u m _ r)
@@ -58,7 +58,7 @@ slot-name-unique table s r q h k =
 -- and the bytes are the slot's name
 pub slot-name-says :
     (table : RefT (List ℕ)) (s : ℕ) (r : RefT (List ℕ)) (t : Tree Bytes) → NameAnswer table s r → Loads (now table) t →
-    IsSlot t s → now r ≡ named t s
+    HasSlot t s → now r ≡ named t s
 slot-name-says table s r t h l i =
     let a = nameStart t (numberAt t s) in
     let n = length (named t s) in

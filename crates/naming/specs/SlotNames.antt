@@ -13,16 +13,16 @@ use Rattle.table.specs.Refusals.{Refused}
 use Rattle.naming.specs.Places.{IsPart, nameStart, numberAt}
 
 -- s is a slot of the model: slots are numbered from 1
-abbrev pub IsSlot : Tree Bytes → ℕ → Type 0
-IsSlot t s = (1 ≤ s) × (s ≤ length (leaves t))
+abbrev pub HasSlot : Tree Bytes → ℕ → Type 0
+HasSlot t s = (1 ≤ s) × (s ≤ length (leaves t))
 
 -- where the name of slot s stands: from a to e of the table, or nowhere, and a and e are its end
 pub data NameStands (table : Bytes) (s a e : ℕ) : Type 0 where
   stands :
-      (t : Tree Bytes) → Loads table t → IsSlot t s → a ≡ nameStart t (numberAt t s) → e ≡ a + length (named t s) →
+      (t : Tree Bytes) → Loads table t → HasSlot t s → a ≡ nameStart t (numberAt t s) → e ≡ a + length (named t s) →
       NameStands table s a e
   no-slot :
-      (t : Tree Bytes) → Loads table t → ¬ IsSlot t s → a ≡ length table → e ≡ length table → NameStands table s a e
+      (t : Tree Bytes) → Loads table t → ¬ HasSlot t s → a ≡ length table → e ≡ length table → NameStands table s a e
   refused : {f : Refusal} → Refused table f → a ≡ length table → e ≡ length table → NameStands table s a e
 
 -- what the name of a slot is: its bytes, and where it points

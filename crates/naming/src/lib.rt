@@ -20,18 +20,6 @@ pub struct Span {
     pub end: usize,
 }
 
-fn wide(x: u16) -> usize
-    ensures { λ r. ⌜ (r ≡ x) × (r < 65536) ⌝ }
-{
-    x as usize
-}
-
-fn wide_byte(x: u8) -> usize
-    ensures { λ r. ⌜ (r ≡ x) × (r < 256) ⌝ }
-{
-    x as usize
-}
-
 // ---- name numbers
 // Writes the name number of each slot, in order, and tells how many slots there are.
 pub fn fill_names(words: &[u32], names: &mut [u16]) -> usize
@@ -59,7 +47,7 @@ pub fn number_at(names: &[u16], s: Slot) -> NameNumber
     ensures { λ r. ⌜ NumberAt (now (names .entry)) (s .0) (r .0) ⌝ }
 {
     let k = s.0 - 1;
-    NameNumber(wide(names[k]))
+    NameNumber(model::wide(names[k]))
 }
 
 // ---- names in a table
@@ -72,7 +60,7 @@ fn name_start(table: &[u8], nodes: usize, i: NameNumber) -> usize
     let mut at = 4 + 2 * nodes;
     let mut j = 0;
     while j < i.0 {
-        at = at + 1 + wide_byte(table[at]);
+        at = at + 1 + model::wide_byte(table[at]);
         j += 1;
     }
     at + 1
@@ -86,7 +74,7 @@ pub fn slot_part(table: &[u8], names: &[u16], nodes: usize, s: Slot) -> Span
 {
     let m = number_at(names, s);
     let start = name_start(table, nodes, m);
-    let size = wide_byte(table[start - 1]);
+    let size = model::wide_byte(table[start - 1]);
     Span {
         start,
         end: start + size,

@@ -16,12 +16,6 @@ fn wide8(x: u8) -> u16
     x as u16
 }
 
-fn wide16(x: u16) -> usize
-    ensures { λ r. ⌜ r ≡ x ⌝ }
-{
-    x as usize
-}
-
 // Puts the two counts of the header at a table's start, and gives the cursor behind them.
 fn put_header(table: &mut [u8], nodes: usize, names: usize) -> Bits
     requires { ⌜ (nodes < words) × (names < words) × Fits (now table) 0 (headerFields nodes names) ⌝ }
@@ -93,8 +87,8 @@ fn put_names(
     let mut next = cursor;
     let mut i = 0;
     while i < names {
-        let start = wide16(starts[i]);
-        let size = wide16(lengths[i]);
+        let start = model::wide(starts[i]);
+        let size = model::wide(lengths[i]);
         next = put_name(table, next, text, start, size);
         i += 1;
     }

@@ -44,12 +44,6 @@ pub struct Prepared {
     pub empty: bool,
 }
 
-fn wide(x: u16) -> usize
-    ensures { λ r. ⌜ (r ≡ x) × (r < 65536) ⌝ }
-{
-    x as usize
-}
-
 // The slots that can come next after p, or first if p is 0.
 pub fn nexts(first: SlotSet, square: &[u8], p: Slot) -> SlotSet
     requires { ⌜ (length (now square) ≡ squareBytes) × (p .0 ≤ slotLimit) ⌝ }
@@ -97,8 +91,8 @@ pub fn find(
         }
         let m = naming::number_at(names, Slot(x));
         let i = m.0;
-        let start = wide(starts[i]);
-        let size = wide(lengths[i]);
+        let start = model::wide(starts[i]);
+        let size = model::wide(lengths[i]);
         if is_named(table, start, size, name) {
             return Slot(x);
         }
@@ -155,15 +149,8 @@ pub fn place_children(
             };
         }
         let next = nexts(first, square, Slot(held));
-        let x = find(
-            table,
-            starts,
-            lengths,
-            names,
-            slots,
-            next,
-            &children[start..end],
-        );
+        let name = &children[start..end];
+        let x = find(table, starts, lengths, names, slots, next, name);
         if x.0 == 0 {
             return Walk {
                 placed,

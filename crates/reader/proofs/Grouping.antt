@@ -6,10 +6,9 @@ use Prim.Native.Nat.{ℕ, suc, _+_, _≤_, _<_}
 use native.Mathlib.Numerals.{add-one}
 use native.Mathlib.Omega.{arith}
 use borrow.Author.Tests.{eq-eqb, ne-eqb}
-use lib.ListN.{length, getD, drop, set, length-append}
+use lib.ListN.{length, getD, drop, length-append}
 use Rattle.model.specs.Codes.{kindNumber, markNumber}
 use Rattle.model.specs.Limits.{groupLimit, nodeLimit}
-use Rattle.model.specs.declared.Kind.{Kind}
 use Rattle.model.specs.declared.Mark.{Mark}
 use Rattle.model.specs.declared.Model.{Model}
 use Rattle.model.specs.declared.Refusal.{Refusal}
@@ -22,32 +21,17 @@ use Rattle.grammar.specs.Inner.Machine.{Class, marked, Frame, fresh, build, Sta
 use Rattle.grammar.specs.Inner.Judge.{refused}
 use Rattle.grammar.proofs.Classes.{no-true, View, is-open, is-close, is-blank, is-join, is-sign, is-start, is-later}
 use Rattle.grammar.proofs.Classes.{is-unused, view}
-use Rattle.reader.specs.Inner.Bytes.{blanks, markOf, width, misplaced, groupKind}
-use Rattle.reader.specs.Inner.Filling.{Ready, Grown}
-use Rattle.reader.specs.Inner.Phrases.{On, tally, Wants, wants, Opens, Fails, Phrase, sepOf, push, Follows, Ends}
-use Rattle.reader.specs.declared.Got.{Got}
-use Rattle.reader.specs.declared.Got.the-variants.{Refused, Behind}
-use Rattle.reader.specs.declared.Follow.{Follow}
-use Rattle.reader.specs.declared.Follow.the-variants.{Stopped, Closed, Joined}
+use Rattle.signs.specs.Inner.Bytes.{blanks, markOf, width, misplaced, groupKind}
+use Rattle.phrases.specs.Inner.Filling.{Ready, Grown}
+use Rattle.phrases.specs.Inner.Phrases.{On, tally, Wants, wants, Opens, Fails, Phrase, sepOf, push, Follows, Ends}
+use Rattle.phrases.specs.declared.Got.{Got}
+use Rattle.phrases.specs.declared.Got.the-variants.{Refused, Behind}
+use Rattle.phrases.specs.declared.Follow.{Follow}
+use Rattle.phrases.specs.declared.Follow.the-variants.{Stopped, Closed, Joined}
+use Rattle.phrases.proofs.Moves.{dead-move, open-move, ended-move}
+use Rattle.phrases.proofs.Places.{at-byte, at-end, one-more, moved, skipped, not-blank}
 use Rattle.reader.proofs.Growing.{AllGrown, grown-none, grown-more, opened, grown-group}
 use Rattle.reader.proofs.Members.{nodesOf, flat, flat-fresh, flat-push}
-use Rattle.reader.proofs.Moves.{dead-move, open-move, ended-move}
-use Rattle.reader.proofs.Naming.{mark-room}
-use Rattle.reader.proofs.Places.{at-byte, at-end, one-more, moved, skipped, not-blank}
-
--- ---- the end of a group
-pub ends :
-    (text : Bytes) (ws : List ℕ) (node sep members at w v : ℕ) (m : Mark) (k : Kind) → at ≤ length text →
-    m ≡ markOf (drop at text) →
-    w ≡ width m → k ≡ groupKind sep → v ≡ word (kindNumber k) (markNumber m) members →
-    Ends text ws node sep members at (at + w) (set ws node v)
-ends text ws node sep members at w v m k h p q r s =
-    record {
-      place = ap (λ x. at + x) (q ∙ ap width p);
-      room = (let z = mark-room text at h in let y = q ∙ ap width p in omega arith);
-      words = ap (set ws node) (s ∙ ap (λ x. word (kindNumber x) (markNumber m) members) r ∙ ap
-          (λ x. word (kindNumber (groupKind sep)) (markNumber x) members) p);
-    }
 
 -- ---- a particle behind white space
 -- what is said from the place i on holds from the place before it

@@ -10,16 +10,15 @@ use Rattle.names.proofs.Places.{sets-append}
 use Rattle.model.specs.Codes.{kindNumber, markNumber}
 use Rattle.model.specs.declared.Mark.{Mark}
 use Rattle.model.specs.declared.Model.{Model}
-use Rattle.meaning.specs.Trees
 use Rattle.meaning.specs.Trees.{Tree, leaves}
 use Rattle.names.specs.Bytes.{Bytes}
 use Rattle.table.specs.Encoding.{sameBytes, firsts}
 use Rattle.table.specs.Inner.Draft
 use Rattle.table.specs.Inner.Draft.{word}
 use Rattle.grammar.specs.Inner.Machine.{marked, Frame, build}
-use Rattle.reader.specs.Inner.Bytes.{groupKind}
-use Rattle.reader.specs.Inner.Filling.{numbered, Ready, seen, Grown}
-use Rattle.reader.specs.Inner.Phrases.{sepOf}
+use Rattle.signs.specs.Inner.Bytes.{groupKind}
+use Rattle.phrases.specs.Inner.Filling.{numbered, Ready, seen, Grown}
+use Rattle.phrases.specs.Inner.Phrases.{sepOf}
 use Rattle.reader.proofs.Members.{leavesOf, nodesOf, wordsOf, firsts-append, leaves-snoc, nodes-snoc, words-snoc}
 use Rattle.reader.proofs.Members.{words-length, flat, Built, built}
 

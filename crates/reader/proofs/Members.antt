@@ -14,9 +14,9 @@ use Rattle.table.specs.Encoding.{sameBytes, firsts}
 use Rattle.table.specs.Inner.Draft.{word, words, all-words}
 use Rattle.table.proofs.Relabel.{size-nodes}
 use Rattle.grammar.specs.Inner.Machine.{Sep, sequel, other, marked, Frame, fresh, behind, onto, build}
-use Rattle.reader.specs.Inner.Bytes.{groupKind}
-use Rattle.reader.specs.Inner.Filling.{numbered, all-numbered}
-use Rattle.reader.specs.Inner.Phrases.{sepOf, push}
+use Rattle.signs.specs.Inner.Bytes.{groupKind}
+use Rattle.phrases.specs.Inner.Filling.{numbered, all-numbered}
+use Rattle.phrases.specs.Inner.Phrases.{sepOf, push}
 
 -- ---- of a list of trees
 abbrev pub leavesOf : List (Tree Bytes) → List Bytes

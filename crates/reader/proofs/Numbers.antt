@@ -9,7 +9,7 @@ use Rattle.names.specs.Bytes.{Bytes}
 use Rattle.table.specs.Encoding.{sameBytes, has, index, firsts, names, numbers}
 use Rattle.table.proofs.Firsts.{same-refl, firsts-more}
 use Rattle.grammar.proofs.Classes.{no-true, decide}
-use Rattle.reader.specs.Inner.Filling.{numbered, all-numbered}
+use Rattle.phrases.specs.Inner.Filling.{numbered, all-numbered}
 use Rattle.reader.proofs.Members.{firsts-append}
 
 -- a name that was seen keeps its number, and a new one has the next

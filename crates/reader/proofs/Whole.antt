@@ -23,14 +23,14 @@ use Rattle.grammar.specs.Inner.Judge.{read, refused, verdict}
 use Rattle.grammar.proofs.Classes.{no-true, View, is-open, is-close, is-blank, is-join, is-sign, is-start, is-later}
 use Rattle.grammar.proofs.Classes.{is-unused, view}
 use Rattle.grammar.proofs.Judged.{Judged, was-read, was-refused, judged}
-use Rattle.reader.specs.Inner.Bytes.{blanks, misplaced}
-use Rattle.reader.specs.Inner.Filling.{numbered, Ready, seen, Grown}
-use Rattle.reader.specs.Inner.Phrases.{On, tally, Opens, Part, Fails}
+use Rattle.signs.specs.Inner.Bytes.{blanks, misplaced}
+use Rattle.phrases.specs.Inner.Filling.{numbered, Ready, seen, Grown}
+use Rattle.phrases.specs.Inner.Phrases.{On, tally, Opens, Part, Fails}
+use Rattle.phrases.proofs.Moves.{dead-move}
+use Rattle.phrases.proofs.Places.{at-byte, at-end, skipped, not-blank}
+use Rattle.phrases.proofs.Entering.{names-length}
 use Rattle.reader.proofs.Members.{words-size}
-use Rattle.reader.proofs.Moves.{dead-move}
-use Rattle.reader.proofs.Entering.{names-length}
 use Rattle.reader.proofs.Numbers.{numbered-numbers}
-use Rattle.reader.proofs.Places.{at-byte, at-end, skipped, not-blank}
 
 -- nothing counted yet
 abbrev pub none : Model

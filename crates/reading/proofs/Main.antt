@@ -13,7 +13,6 @@ use Rattle.model.specs.declared.Refusal.{Refusal}
 use Rattle.meaning.specs.Trees.{Tree}
 use Rattle.names.specs.Bytes.{Bytes}
 use Rattle.grammar.specs.Faults.{Reads}
-use Rattle.grammar.specs.Faults
 use Rattle.grammar.specs.Written.{strip, written}
 use Rattle.grammar.proofs.Main.{reads-not-refused, reads-unique, refused-unique}
 use Rattle.table.specs.Encoding.{encode}

@@ -59,7 +59,7 @@ fn put_match<'a>(table: &'a [u8], children: &'a [u8]) {
             put_number(k);
             put_number(s.0);
             put(b" ");
-            put(matching::name_part(table, children));
+            put(parting::name_part(table, children));
             put(b"\n");
         }
         Matched::Short(n, s) => {

@@ -114,7 +114,10 @@ module _ (t : Tree Bytes) (lawful : Lawful t) where
 
   encode-counted : Counted (tableBytes t)
   encode-counted =
-      let c = two-nodes t (lawful .within .group) in let d = names-some in let e = names-few in let f = lawful .within .small in
+      let c = two-nodes t (lawful .within .group) in
+      let d = names-some in
+      let e = names-few in
+      let f = lawful .within .small in
       record { some-nodes = omega arith; few-nodes = omega arith; some-names = omega arith; few-names = omega arith }
 
   count-nodes : nodeCount (tableBytes t) ≡ nodes t

@@ -3,6 +3,7 @@
 use Rattle.model.specs.Figures.{figures}
 use Rattle.model.specs.Refusals.{figuresOf}
 use Rattle.model.specs.declared.Figures.{Figures}
+use Rattle.model.specs.declared.Refusal.the-variants.{Ambiguous as Refusal24}
 use Rattle.meaning.specs.Trees.{Tree}
 use Rattle.meaning.specs.Clashes.{Ambiguous, FirstClash}
 use Rattle.names.specs.Bytes.{Bytes}
@@ -11,10 +12,10 @@ use Rattle.table.specs.Refusals.{Refused}
 use Rattle.verdict.specs.declared.Verdict.{Verdict}
 use Rattle.verdict.specs.declared.Verdict.the-variants.{Deterministic, Ambiguous as Clashing, Refused as Stop}
 
--- in figures: 0 where deterministic; 24 and p, x, y where ambiguous; or the refusal
+-- in figures: 0 where deterministic; what refusal 24 says, p, x, y with it, where ambiguous; or the refusal
 abbrev pub verdictFigures : Verdict → Figures
 verdictFigures Deterministic = figures 0 0 0 0
-verdictFigures (Clashing p x y) = figures 24 (p .0) (x .0) (y .0)
+verdictFigures (Clashing p x y) = figuresOf (Refusal24 p x y)
 verdictFigures (Stop f) = figuresOf f
 
 -- these values show the first clash of a model: p, x, y

@@ -31,12 +31,6 @@ pub struct Weighed {
     pub empty: bool,
 }
 
-fn wide(x: u16) -> usize
-    ensures { λ r. ⌜ r ≡ x ⌝ }
-{
-    x as usize
-}
-
 // Links each slot to the next one of its name, or to one past the last: from the last slot down, with what was seen of
 // each name.
 fn fill_later(names: &[u16], slots: usize, later: &mut [u16])
@@ -80,7 +74,7 @@ fn first_clash(square: &[u8], start: SlotSet, later: &[u16], slots: usize) -> Ve
     'search: while p <= slots {
         let mut x = 1;
         while x <= slots {
-            let mut y = wide(later[x - 1]);
+            let mut y = model::wide(later[x - 1]);
             if slots < y {
                 x += 1;
                 continue;
@@ -94,7 +88,7 @@ fn first_clash(square: &[u8], start: SlotSet, later: &[u16], slots: usize) -> Ve
                     answer = Verdict::Ambiguous(Slot(p), Slot(x), Slot(y));
                     break 'search;
                 }
-                y = wide(later[y - 1]);
+                y = model::wide(later[y - 1]);
             }
             x += 1;
         }

@@ -21,10 +21,10 @@ use Rattle.table.proofs.Numbering.{numbers-below}
 use Rattle.table.proofs.Lawful.{loads-sound, sound-free, names-few}
 use Rattle.table.proofs.Standing.{sits-at, sits-there, drafted-sits}
 use Rattle.writer.specs.Answers.{WriteFault, of-table, fault-18}
-use Rattle.writer.specs.Inner.Writing.{Wrote, textOf, Ready, Done}
-use Rattle.writer.specs.declared.Spot.{Spot}
-use Rattle.writer.proofs.Places.{wrote-all}
-use Rattle.writer.proofs.Parts.{draft-text}
+use Rattle.spelling.specs.Inner.Writing.{Wrote, textOf, Ready, Done}
+use Rattle.spelling.specs.declared.Spot.{Spot}
+use Rattle.spelling.proofs.Places.{wrote-all}
+use Rattle.spelling.proofs.Parts.{draft-text}
 
 -- ---- refusals
 fault-number : (s : Bytes) (f : Refusal) → Fault s f → numberOf f < 18

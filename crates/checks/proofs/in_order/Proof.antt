@@ -38,13 +38,16 @@ value-of-requires c κs = search needs
 
 returns : tie.Need-returns Inv-loop μ-loop
 unfolding ordered
-returns c = let s = c .before .before .before .before .before .before .before .before .args .words .now in
-    let i = c .before .before .before .before .before .before .loop .i in
-    let e = leaves-at s i (c .before .before .before .before .before .loop-test .taken)
-    ∙ kind-name _ _ _ (sym (c .before .before .before .kind-of .ensures) ∙ c .before .before .if1 .taken) in
-    let h : c .before .before .before .before .before .before .loop .k < valueOf (getD s i 0) =
+returns c =
+    let c3 = c .before .before .before in
+    let c6 = c3 .before .before .before in
+    let s = c6 .before .before .args .words .now in
+    let i = c6 .loop .i in
+    let e = leaves-at s i (c3 .before .before .loop-test .taken)
+    ∙ kind-name _ _ _ (sym (c3 .kind-of .ensures) ∙ c .before .before .if1 .taken) in
+    let h : c6 .loop .k < valueOf (getD s i 0) =
     omega (arith, c .if2 .taken, c .before .value-of .ensures .0) in
-    (rw (e, lt-leb _ _ h) at (c .before .before .before .before .before .before .loop .inv .1 .1))
+    (rw (e, lt-leb _ _ h) at (c6 .loop .inv .1 .1))
 
 add-k : tie.Need-add-k Inv-loop μ-loop
 add-k c = search needs
@@ -56,15 +59,17 @@ loop-less : tie.Need-loop-less Inv-loop μ-loop
 loop-less c = search needs
 
 loop-again : tie.Need-loop-again Inv-loop μ-loop
-loop-again c = let s = c .before .before .before .before .before .before .args .words .now in
-    let m = c .before .before .before .before .before .before .args .m in
-    let i = c .before .before .before .before .loop .i in
-    let k = c .before .before .before .before .loop .k in
+loop-again c =
+    let c3 = c .before .before .before in
+    let c6 = c3 .before .before .before in
+    let s = c6 .args .words .now in
+    let m = c6 .args .m in
+    let i = c3 .before .loop .i in
+    let k = c3 .before .loop .k in
     let v : ℕ = valueOf (getD s i 0) in
     let l : List ℕ = leavesOf (drop (i + 1) s) in
-    let e = leaves-at s i (c .before .before .before .loop-test .taken) in
-    ⊎-elim
-    (λ w.
+    let e = leaves-at s i (c3 .loop-test .taken) in
+    ⊎-elim (λ w.
     let f = e ∙ kind-name _ _ _ (sym (c .before .kind-of .ensures) ∙ w .0 .taken) in
     let q : c .if1 .k ≡ k + 1 = w .4 in
     let g : k ≤ v = omega (arith, w .3 .taken, w .1 .ensures .0) in
@@ -73,11 +78,9 @@ loop-again c = let s = c .before .before .before .before .before .before .args .
       (
         omega arith,
         rw q (sym (ordered-name m k v l u ∙ ap (λ x. ordered m x l) (next-new k v g))
-            ∙ sym (ap (ordered m k) f) ∙ c .before .before .before .before .loop .inv .1 .1),
+            ∙ sym (ap (ordered m k) f) ∙ c3 .before .loop .inv .1 .1),
       ),
-    ))
-    (⊎-elim
-    (λ w.
+    )) (⊎-elim (λ w.
     let f = e ∙ kind-name _ _ _ (sym (c .before .kind-of .ensures) ∙ w .0 .taken) in
     let q : c .if1 .k ≡ k = w .4 in
     let g : v < k = omega (arith, w .3 .left, w .1 .ensures .0) in
@@ -86,16 +89,14 @@ loop-again c = let s = c .before .before .before .before .before .before .args .
       (
         omega arith,
         rw q (sym (ordered-name m k v l u ∙ ap (λ x. ordered m x l) (next-old k v g))
-            ∙ sym (ap (ordered m k) f) ∙ c .before .before .before .before .loop .inv .1 .1),
+            ∙ sym (ap (ordered m k) f) ∙ c3 .before .loop .inv .1 .1),
       ),
-    ))
-    (λ w.
+    )) (λ w.
     let f = e ∙ kind-group _ _ _ (λ z. w .0 .left (c .before .kind-of .ensures ∙ z)) in
     let q : c .if1 .k ≡ k = w .1 in (
       search needs,
-      (omega arith, rw q (sym (ap (ordered m k) f) ∙ c .before .before .before .before .loop .inv .1 .1)),
-    )))
-    (c .if1 .came)
+      (omega arith, rw q (sym (ap (ordered m k) f) ∙ c3 .before .loop .inv .1 .1)),
+    ))) (c .if1 .came)
 
 returns-2 : tie.Need-returns-2 Inv-loop μ-loop
 unfolding ordered

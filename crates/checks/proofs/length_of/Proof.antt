@@ -6,21 +6,21 @@ use borrow.Author.Needs.{needs}
 use Rattle.checks.proofs.length_of.Statement.{statement}
 use Rattle.checks.proofs.length_of.Tie as tie
 
-mul-wide16 : tie.Need-mul-wide16
-mul-wide16 c = search needs
+mul-wide : tie.Need-mul-wide
+mul-wide c = search needs
 
-shared-slice-read-wide16 : tie.Need-shared-slice-read-wide16
-shared-slice-read-wide16 c = search needs
+shared-slice-read-wide : tie.Need-shared-slice-read-wide
+shared-slice-read-wide c = search needs
 
-wide16-requires : tie.Need-wide16-requires
-wide16-requires c κs = search needs
+wide-requires : tie.Need-wide-requires
+wide-requires c κs = search needs
 
 returns : tie.Need-returns
-returns c = c .wide16 .ensures
+returns c = c .wide .ensures
 
 returns-2 : tie.Need-returns-2
 returns-2 c = (sym (List·getD-eq-default (c .before .before .args .lengths .now) 0 (c .if1 .left)), omega arith)
 
 pub length-of-spec : {M : Type 1} → statement M
 length-of-spec =
-    tie.close (tie.spec mul-wide16 shared-slice-read-wide16 wide16-requires returns returns-2)
+    tie.close (tie.spec mul-wide shared-slice-read-wide wide-requires returns returns-2)

@@ -74,15 +74,17 @@ loop-less : tie.Need-loop-less Inv-loop μ-loop
 loop-less c = search needs
 
 loop-again : tie.Need-loop-again Inv-loop μ-loop
-loop-again c = let l = c .before .before .before .before .before .before .before .loop in
-    let s = c .before .before .before .before .before .before .before .before .before .args .words .now in
-    let x : List ℕ = c .before .before .before .before .settled .last .0 in
-    let r : ℕ = c .before .before .before .before .settled .result in
+loop-again c =
+    let c4 = c .before .before .before .before in
+    let c7 = c4 .before .before .before in
+    let l = c7 .loop in
+    let s = c7 .before .before .args .words .now in
+    let x : List ℕ = c4 .settled .last .0 in
+    let r : ℕ = c4 .settled .result in
     let e : (r ≤ groupLimit) × ((length x ≡ groupLimit) × (stackOf x r ≡ settle (stackOf (l .stack) (l .d)))) =
-    c .before .before .before .before .settled .ensures in
-    let h : l .i < length s = c .before .before .before .before .before .before .loop-test .taken in
-    ⊎-elim
-    (λ w.
+    c4 .settled .ensures in
+    let h : l .i < length s = c4 .before .before .loop-test .taken in
+    ⊎-elim (λ w.
     let v : ℕ = valueOf (getD s (l .i) 0) in
     let p : c .if1 .stack ≡ set x r v = w .3 ∙ ap (set x r) (w .2 .ensures .0) in
     let o : c .if1 .d ≡ r + 1 = w .4 in
@@ -98,8 +100,7 @@ loop-again c = let l = c .before .before .before .before .before .before .before
               (rw (c .before .kind-of .ensures) at (w .0 .taken)) y) ∙ l .inv .1 .1 .1),
         ),
       ),
-    ))
-    (λ w.
+    )) (λ w.
     let p : c .if1 .stack ≡ x = w .1 in
     let o : c .if1 .d ≡ r = w .2 in
     let y : length (stackOf x r) ≤ groupLimit = omega (arith, stack-length x r, e .0) in (
@@ -113,8 +114,7 @@ loop-again c = let l = c .before .before .before .before .before .before .before
               (rw (c .before .kind-of .ensures) at (w .0 .left)) y) ∙ l .inv .1 .1 .1),
         ),
       ),
-    ))
-    (c .if1 .came)
+    )) (c .if1 .came)
 
 returns-2 : tie.Need-returns-2 Inv-loop μ-loop
 returns-2 c =

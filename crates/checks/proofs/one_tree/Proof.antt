@@ -64,22 +64,19 @@ loop-less c = search needs
 
 loop-again : tie.Need-loop-again Inv-loop μ-loop
 loop-again c =
-    let f : fine (c .before .before .before .before .before .before .before .before .args .m) (getD
-    (c .before .before .before .before .before .before .before .before .args .words .now)
-    (c .before .before .before .before .before .before .loop .i) 0) ≡ true = sym (c .before .before .is-fine .ensures)
+    let c4 = c .before .before .before .before in
+    let c8 = c4 .before .before .before .before in
+    let f : fine (c8 .args .m) (getD (c8 .args .words .now)
+    (c4 .before .before .loop .i) 0) ≡ true = sym (c .before .before .is-fine .ensures)
     ∙ not-false _ (c .before .if2 .left) in
     let h = c .members .ensures .1 in (
       search needs,
       (
         omega arith,
         rw (c .members .ensures .0) ((rw f at (sym (whole-at
-            (c .before .before .before .before .before .before .before .before .args .words .now)
-            (c .before .before .before .before .before .before .loop .i)
-            (c .before .before .before .before .before .before .before .before .args .m)
-            (c .before .before .before .before .before .before .loop .want)
-            (c .before .before .before .before .before .loop-test .taken)
-            (c .before .before .before .before .if1 .left)))) ∙
-            c .before .before .before .before .before .before .loop .inv .1 .1),
+            (c8 .args .words .now) (c4 .before .before .loop .i) (c8 .args .m) (c4 .before .before .loop .want)
+            (c4 .before .loop-test .taken) (c4 .if1 .left)))) ∙
+            c4 .before .before .loop .inv .1 .1),
       ),
     )
 

@@ -49,24 +49,24 @@ is-right-requires c κs = search needs
 
 returns : tie.Need-returns Inv-loop μ-loop
 returns c =
-    sym (sym (c .before .before .before .before .before .before .loop .inv .1 .1) ∙ judge-at
-    (c .before .before .before .before .before .before .before .before .args .text .now)
-    (c .before .before .before .before .before .before .loop .n)
-    (c .before .before .before .before .before .before .loop .i) (search needs) ∙ rw (
+    let c3 = c .before .before .before in
+    let c6 = c3 .before .before .before in
+    sym (sym (c6 .loop .inv .1 .1) ∙ judge-at (c6 .before .before .args .text .now) (c6 .loop .n)
+    (c6 .loop .i) (search needs) ∙ rw (
       sym
-          (c .before .before .before .is-space .ensures) ∙ c .before .before .if1 .left,
+          (c3 .is-space .ensures) ∙ c .before .before .if1 .left,
       sym (c .before .is-right .ensures)
           ∙ not-true _ (c .if2 .taken),
     ))
 
 returns-2 : tie.Need-returns-2 Inv-loop μ-loop
 returns-2 c =
-    sym (sym (c .before .before .before .before .before .before .before .loop .inv .1 .1) ∙ judge-at
-    (c .before .before .before .before .before .before .before .before .before .args .text .now)
-    (c .before .before .before .before .before .before .before .loop .n)
-    (c .before .before .before .before .before .before .before .loop .i) (search needs) ∙ rw (
+    let c3 = c .before .before .before in
+    let c7 = c3 .before .before .before .before in
+    sym (sym (c7 .loop .inv .1 .1) ∙ judge-at (c7 .before .before .args .text .now) (c7 .loop .n)
+    (c7 .loop .i) (search needs) ∙ rw (
       sym
-          (c .before .before .before .before .is-space .ensures) ∙ c .before .before .before .if1 .left,
+          (c3 .before .is-space .ensures) ∙ c3 .if1 .left,
       sym
           (c .before .before .is-right .ensures) ∙ not-false _ (c .before .if2 .left),
       eq-eqb _ _ (c .if3 .taken),
@@ -82,23 +82,23 @@ loop-less-2 : tie.Need-loop-less-2 Inv-loop μ-loop
 loop-less-2 c = search needs
 
 loop-again-2 : tie.Need-loop-again-2 Inv-loop μ-loop
-loop-again-2 c = (
-  search needs,
-  (
-    search needs,
-    sym (judge-at
-        (c .before .before .before .before .before .before .before .before .before .args .text .now)
-        (c .before .before .before .before .before .before .before .loop .n)
-        (c .before .before .before .before .before .before .before .loop .i) (search needs) ∙ rw (
-          sym
-              (c .before .before .before .before .is-space .ensures) ∙ c .before .before .before .if1 .left,
-          sym
-              (c .before .before .is-right .ensures) ∙ not-false _ (c .before .if2 .left),
-          ne-eqb _ _ (c .if3 .left),
-        )) ∙
-        c .before .before .before .before .before .before .before .loop .inv .1 .1,
-  ),
-)
+loop-again-2 c =
+    let c3 = c .before .before .before in
+    let c7 = c3 .before .before .before .before in (
+      search needs,
+      (
+        search needs,
+        sym (judge-at
+            (c7 .before .before .args .text .now) (c7 .loop .n) (c7 .loop .i) (search needs) ∙ rw (
+              sym
+                  (c3 .before .is-space .ensures) ∙ c3 .if1 .left,
+              sym
+                  (c .before .before .is-right .ensures) ∙ not-false _ (c .before .if2 .left),
+              ne-eqb _ _ (c .if3 .left),
+            )) ∙
+            c7 .loop .inv .1 .1,
+      ),
+    )
 
 returns-3 : tie.Need-returns-3 Inv-loop μ-loop
 returns-3 c =

@@ -48,18 +48,16 @@ loop-less c = search needs
 
 loop-again : tie.Need-loop-again Inv-loop μ-loop
 loop-again c =
+    let c4 = c .before .before .before .before in
     let e = sym (c .before .is-space .ensures) ∙ not-false _ (c .if1 .left) in (
       search needs,
       (
         search needs,
         (
-          c .before .before .before .before .loop .inv .1 .1 .0 ∙ cut-space
-              (c .before .before .before .before .before .before .args .text .now)
-              (c .before .before .before .before .loop .i)
-              (search needs) [] e,
-          λ s. sound-space (c .before .before .before .before .before .before .args .text .now)
-              (c .before .before .before .before .loop .i) (search needs) e
-              (c .before .before .before .before .loop .inv .1 .1 .1 s),
+          c4 .loop .inv .1 .1 .0 ∙ cut-space
+              (c4 .before .before .args .text .now) (c4 .loop .i) (search needs) [] e,
+          λ s. sound-space (c4 .before .before .args .text .now)
+              (c4 .loop .i) (search needs) e (c4 .loop .inv .1 .1 .1 s),
         ),
       ),
     )

@@ -40,22 +40,18 @@ is-space-requires c κs = search needs
 
 returns : tie.Need-returns Inv-loop μ-loop
 returns c =
+    let c4 = c .before .before .before .before in
     record {
       from = search needs;
       within = search needs;
       words = sym
-          (c .before .before .before .before .loop .inv .1 .1 .0) ∙ cut-stop
-          (c .before .before .before .before .before .before .args .text .now)
-          (c .before .before .before .before .loop .i)
+          (c4 .loop .inv .1 .1 .0) ∙ cut-stop (c4 .before .before .args .text .now) (c4 .loop .i)
           (search needs) _ (sym (c .before .is-space .ensures) ∙ c .if1 .taken);
       sound = λ s. within-stop
-          (c .before .before .before .before .before .before .args .text .now)
-          (c .before .before .before .before .loop .i)
-          (search needs) (sym (c .before .is-space .ensures) ∙ c .if1 .taken)
-          (c .before .before .before .before .loop .inv .1 .1 .1 s);
+          (c4 .before .before .args .text .now) (c4 .loop .i)
+          (search needs) (sym (c .before .is-space .ensures) ∙ c .if1 .taken) (c4 .loop .inv .1 .1 .1 s);
       some = λ h e. later
-          (c .before .before .before .before .before .before .args .text .now) _
-          (c .before .before .before .before .loop .i) (c .before .before .before .before .loop .inv .0) e (sym
+          (c4 .before .before .args .text .now) _ (c4 .loop .i) (c4 .loop .inv .0) e (sym
           (c .before .is-space .ensures) ∙ c .if1 .taken);
     }
 
@@ -66,28 +62,23 @@ loop-less : tie.Need-loop-less Inv-loop μ-loop
 loop-less c = search needs
 
 loop-again : tie.Need-loop-again Inv-loop μ-loop
-loop-again c = (
-  search needs,
-  (
-    search needs,
-    (
-      ap (λ l. cut l (drop ((c .before .before .before .before .loop .i) + 1)
-          (c .before .before .before .before .before .before .args .text .now))) (part-next
-          (c .before .before .before .before .before .before .args .text .now)
-          (c .before .before .before .before .loop .i)
-          (search needs) _ (c .before .before .before .before .loop .inv .0)) ∙ sym (cut-byte
-          (c .before .before .before .before .before .before .args .text .now)
-          (c .before .before .before .before .loop .i)
-          (search needs) _ (sym (c .before .is-space .ensures) ∙ c .if1 .left)) ∙
-          c .before .before .before .before .loop .inv .1 .1 .0,
-      λ s. within-byte
-          (c .before .before .before .before .before .before .args .text .now)
-          (c .before .before .before .before .loop .i)
-          (search needs) (sym (c .before .is-space .ensures) ∙ c .if1 .left)
-          (c .before .before .before .before .loop .inv .1 .1 .1 s),
-    ),
-  ),
-)
+loop-again c =
+    let c4 = c .before .before .before .before in (
+      search needs,
+      (
+        search needs,
+        (
+          ap (λ l. cut l (drop ((c4 .loop .i) + 1)
+              (c4 .before .before .args .text .now))) (part-next (c4 .before .before .args .text .now) (c4 .loop .i)
+              (search needs) _ (c4 .loop .inv .0)) ∙ sym (cut-byte (c4 .before .before .args .text .now) (c4 .loop .i)
+              (search needs) _ (sym (c .before .is-space .ensures) ∙ c .if1 .left)) ∙
+              c4 .loop .inv .1 .1 .0,
+          λ s. within-byte
+              (c4 .before .before .args .text .now) (c4 .loop .i)
+              (search needs) (sym (c .before .is-space .ensures) ∙ c .if1 .left) (c4 .loop .inv .1 .1 .1 s),
+        ),
+      ),
+    )
 
 returns-2 : tie.Need-returns-2 Inv-loop μ-loop
 returns-2 c =

@@ -25,13 +25,15 @@ enum-known-h-2 : tie.Need-enum-known-h-2
 enum-known-h-2 c = search needs
 
 nodes-of-requires : tie.Need-nodes-of-requires
-nodes-of-requires c κs = let s = c .before .before .before .before .before .before .before .before .before .args
+nodes-of-requires c κs =
+    let c4 = c .before .before .before .before in
+    let c9 = c4 .before .before .before .before .before in
+    let s = c9 .args
     .table .now in
     let n : ℕ = c .before .before .h2 .given .0 .0 in
     let m : ℕ = c .before .before .h2 .given .0 .1 .0 in
-    let hd : Headed s n m = subst (HeaderAnswer s) (c .before .before .h2 .given .1)
-    (c .before .before .before .before .header-of .ensures) in
-    (c .before .before .before .before .before .before .before .before .before .pre .0, hd)
+    let hd : Headed s n m = subst (HeaderAnswer s) (c .before .before .h2 .given .1) (c4 .header-of .ensures) in
+    (c9 .pre .0, hd)
 
 same-length : tie.Need-same-length
 same-length c = search needs
@@ -104,18 +106,19 @@ part-rest-of-start c = search needs
 
 part-rest-of-end : tie.Need-part-rest-of-end
 part-rest-of-end c =
+    let c7 = c .before .before .before .before .before .before .before in
+    let c15 = c7 .before .before .before .before .before .before .before .before in
+    let c22 = c15 .before .before .before .before .before .before .before in
     let s =
-    c .before .before .before .before .before .before .before .before .before .before .before .before .before .before .before .before .before .before .before .before .before .before .args .table .now
+    c22 .args .table .now
     in
     let n : ℕ =
-    c .before .before .before .before .before .before .before .before .before .before .before .before .before .before .before .h2 .given .0 .0
+    c15 .h2 .given .0 .0
     in
     let m : ℕ =
-    c .before .before .before .before .before .before .before .before .before .before .before .before .before .before .before .h2 .given .0 .1 .0
+    c15 .h2 .given .0 .1 .0
     in
-    let hd : Headed s n m = subst (HeaderAnswer s)
-    (c .before .before .before .before .before .before .before .before .before .before .before .before .before .before .before .h2 .given .1)
-    (c .before .before .before .before .before .before .before .before .before .before .before .before .before .before .before .before .before .header-of .ensures)
+    let hd : Headed s n m = subst (HeaderAnswer s) (c15 .h2 .given .1) (c15 .before .before .header-of .ensures)
     in
     let f = hd .few .few-nodes in
     let g = hd .node-count in
@@ -123,7 +126,8 @@ part-rest-of-end c =
 
 rest-of-requires : tie.Need-rest-of-requires
 rest-of-requires c κs =
-    let c14 = c .before .before .before .before .before .before .before .before .before .before .before .before .before .before in
+    let c7 = c .before .before .before .before .before .before .before in
+    let c14 = c7 .before .before .before .before .before .before .before in
     let c17 = c14 .before .before .before in
     let c19 = c17 .before .before in
     let c24 = c19 .before .before .before .before .before in

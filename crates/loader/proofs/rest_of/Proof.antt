@@ -28,41 +28,45 @@ text-length-requires c κs = search needs
 
 returns-2 : tie.Need-returns-2
 unfolding restOf
-returns-2 c = let o = sym (c .before .before .before .before .before .in-order .ensures)
-    ∙ not-false (c .before .before .before .before .before .in-order .result)
-    (c .before .before .before .before .if1 .left) in rw (o, sym (c .before .before .is-large .ensures) ∙ c .if2 .taken)
+returns-2 c =
+    let c4 = c .before .before .before .before in
+    let o = sym (c4 .before .in-order .ensures)
+    ∙ not-false (c4 .before .in-order .result)
+    (c4 .if1 .left) in rw (o, sym (c .before .before .is-large .ensures) ∙ c .if2 .taken)
 
 returns-3 : tie.Need-returns-3
 unfolding restOf
-returns-3 c = let o = sym (c .before .before .before .before .before .before .in-order .ensures)
-    ∙ not-false (c .before .before .before .before .before .before .in-order .result)
-    (c .before .before .before .before .before .if1 .left) in
-    let g = sym (c .before .before .before .is-large .ensures) ∙ c .before .if2 .left in
+returns-3 c =
+    let c3 = c .before .before .before in
+    let c6 = c3 .before .before .before in
+    let c9 = c6 .before .before .before in
+    let o = sym (c6 .in-order .ensures)
+    ∙ not-false (c6 .in-order .result) (c3 .before .before .if1 .left) in
+    let g = sym (c3 .is-large .ensures) ∙ c .before .if2 .left in
     rw (
       o,
       g,
       lt-ltb textLimit
-          (total (λ i. getD
-          (c .before .before .before .before .before .before .before .before .before .args .lengths .now) i 0)
-          (c .before .before .before .before .before .before .before .before .before .args .words .now))
+          (total (λ i. getD (c9 .args .lengths .now) i 0) (c9 .args .words .now))
           (omega (arith, c .before .before .text-length .ensures, c .if3 .taken)),
     )
 
 returns-4 : tie.Need-returns-4
 unfolding restOf
-returns-4 c = let o = sym (c .before .before .before .before .before .before .in-order .ensures)
-    ∙ not-false (c .before .before .before .before .before .before .in-order .result)
-    (c .before .before .before .before .before .if1 .left) in
-    let g = sym (c .before .before .before .is-large .ensures) ∙ c .before .if2 .left in
+returns-4 c =
+    let c3 = c .before .before .before in
+    let c6 = c3 .before .before .before in
+    let c9 = c6 .before .before .before in
+    let o = sym (c6 .in-order .ensures)
+    ∙ not-false (c6 .in-order .result) (c3 .before .before .if1 .left) in
+    let g = sym (c3 .is-large .ensures) ∙ c .before .if2 .left in
     rw (
       o,
       g,
       le-ltb textLimit
-          (total (λ i. getD
-          (c .before .before .before .before .before .before .before .before .before .args .lengths .now) i 0)
-          (c .before .before .before .before .before .before .before .before .before .args .words .now))
+          (total (λ i. getD (c9 .args .lengths .now) i 0) (c9 .args .words .now))
           (omega (arith, c .before .before .text-length .ensures, c .if3 .left)),
-      ← c .before .before .before .before .slots-of .ensures .0,
+      ← c3 .before .slots-of .ensures .0,
     )
 
 pub rest-of-spec : {M : Type 1} → statement M

@@ -42,15 +42,11 @@ enum-told c = search needs
 
 returns-2 : tie.Need-returns-2
 returns-2 c =
-    let m = is-ready
-    (c .before .before .before .before .before .before .before .before .before .before .before .before .before .before .before .args .table .now)
-    (c .before .before .before .before .before .before .before .prepare .last .1 .0)
-    (c .before .before .before .before .before .before .before .prepare .last .1 .1 .0)
-    (c .before .before .before .before .before .before .before .prepare .last .1 .1 .1 .0)
-    (c .before .before .before .before .before .before .before .prepare .last .1 .1 .1 .1 .0)
-    (c .before .before .before .before .before .before .before .prepare .result .passing)
-    (c .before .before .before .before .before .before .before .prepare .result)
-    (c .before .before .before .before .before .before .before .prepare .ensures) (c .before .enum-told .given .1) in
+    let c7 = c .before .before .before .before .before .before .before in
+    let c15 = c7 .before .before .before .before .before .before .before .before in
+    let m = is-ready (c15 .args .table .now) (c7 .prepare .last .1 .0) (c7 .prepare .last .1 .1 .0)
+    (c7 .prepare .last .1 .1 .1 .0) (c7 .prepare .last .1 .1 .1 .1 .0) (c7 .prepare .result .passing)
+    (c7 .prepare .result) (c7 .prepare .ensures) (c .before .enum-told .given .1) in
     (by-room (m .model) (m .passed) (search needs), refl)
 
 check-requires : tie.Need-check-requires
@@ -61,20 +57,15 @@ enum-known-checked c = search needs
 
 returns-3 : tie.Need-returns-3
 returns-3 c =
-    let m = is-ready
-    (c .before .before .before .before .before .before .before .before .before .before .before .before .before .before .before .before .before .before .before .args .table .now)
-    (c .before .before .before .before .before .before .before .before .before .before .before .prepare .last .1 .0)
-    (c .before .before .before .before .before .before .before .before .before .before .before .prepare .last .1 .1 .0)
-    (c .before .before .before .before .before .before .before .before .before .before .before .prepare .last .1 .1 .1 .0)
-    (c .before .before .before .before .before .before .before .before .before .before .before .prepare .last .1 .1 .1 .1 .0)
-    (c .before .before .before .before .before .before .before .before .before .before .before .prepare .result .passing)
-    (c .before .before .before .before .before .before .before .before .before .before .before .prepare .result)
-    (c .before .before .before .before .before .before .before .before .before .before .before .prepare .ensures)
-    (c .before .before .before .before .before .enum-told .given .1) in (
+    let c3 = c .before .before .before in
+    let c11 = c3 .before .before .before .before .before .before .before .before in
+    let c19 = c11 .before .before .before .before .before .before .before .before in
+    let m = is-ready (c19 .args .table .now) (c11 .prepare .last .1 .0) (c11 .prepare .last .1 .1 .0)
+    (c11 .prepare .last .1 .1 .1 .0) (c11 .prepare .last .1 .1 .1 .1 .0) (c11 .prepare .result .passing)
+    (c11 .prepare .result) (c11 .prepare .ensures) (c3 .before .before .enum-told .given .1) in (
       by-children (m .model) (m .passed) (search needs) (checked-refused
-          (c .before .before .before .before .before .before .before .before .before .before .before .before .before .before .before .before .before .before .before .args .children .now)
-          (c .before .before .before .check .result) (c .before .checked .given .0 .0)
-          (c .before .before .before .check .ensures) (c .before .checked .given .1)),
+          (c19 .args .children .now) (c3 .check .result) (c .before .checked .given .0 .0)
+          (c3 .check .ensures) (c .before .checked .given .1)),
       refl,
     )
 
@@ -95,22 +86,16 @@ slice-aggregate-place-children-4 c = search needs
 
 place-children-requires : tie.Need-place-children-requires
 place-children-requires c κs =
-    let m = is-ready
-    (c .before .before .before .before .before .before .before .before .before .before .before .before .before .before .before .before .before .before .before .before .before .before .before .before .before .args .table .now)
-    (c .before .before .before .before .before .before .before .before .before .before .before .before .before .before .before .before .before .prepare .last .1 .0)
-    (c .before .before .before .before .before .before .before .before .before .before .before .before .before .before .before .before .before .prepare .last .1 .1 .0)
-    (c .before .before .before .before .before .before .before .before .before .before .before .before .before .before .before .before .before .prepare .last .1 .1 .1 .0)
-    (c .before .before .before .before .before .before .before .before .before .before .before .before .before .before .before .before .before .prepare .last .1 .1 .1 .1 .0)
-    (c .before .before .before .before .before .before .before .before .before .before .before .before .before .before .before .before .before .prepare .result .passing)
-    (c .before .before .before .before .before .before .before .before .before .before .before .before .before .before .before .before .before .prepare .result)
-    (c .before .before .before .before .before .before .before .before .before .before .before .before .before .before .before .before .before .prepare .ensures)
-    (c .before .before .before .before .before .before .before .before .before .before .before .enum-told .given .1)
+    let c7 = c .before .before .before .before .before .before .before in
+    let c11 = c7 .before .before .before .before in
+    let c17 = c11 .before .before .before .before .before .before in
+    let c25 = c17 .before .before .before .before .before .before .before .before in
+    let m = is-ready (c25 .args .table .now) (c17 .prepare .last .1 .0) (c17 .prepare .last .1 .1 .0)
+    (c17 .prepare .last .1 .1 .1 .0) (c17 .prepare .last .1 .1 .1 .1 .0) (c17 .prepare .result .passing)
+    (c17 .prepare .result) (c17 .prepare .ensures) (c11 .enum-told .given .1)
     in
-    let f = checked-fine
-    (c .before .before .before .before .before .before .before .before .before .before .before .before .before .before .before .before .before .before .before .before .before .before .before .before .before .args .children .now)
-    (c .before .before .before .before .before .before .before .before .before .check .result)
-    (c .before .before .before .before .before .before .before .before .before .check .ensures)
-    (c .before .before .before .before .before .before .before .enum-told2 .given .1) in (
+    let f = checked-fine (c25 .args .children .now) (c7 .before .before .check .result)
+    (c7 .before .before .check .ensures) (c7 .enum-told2 .given .1) in (
       record { starts-room = search needs; lengths-room = search needs; names-room = search needs; few = m .few },
       (search needs, (f .0, (m .model, m .known))),
     )
@@ -137,41 +122,26 @@ same-length c = search needs
 
 returns-4 : tie.Need-returns-4
 returns-4 c =
-    let m = is-ready
-    (c .before .before .before .before .before .before .before .before .before .before .before .before .before .before .before .before .before .before .before .before .before .before .before .before .before .before .before .before .before .args .table .now)
-    (c .before .before .before .before .before .before .before .before .before .before .before .before .before .before .before .before .before .before .before .before .before .prepare .last .1 .0)
-    (c .before .before .before .before .before .before .before .before .before .before .before .before .before .before .before .before .before .before .before .before .before .prepare .last .1 .1 .0)
-    (c .before .before .before .before .before .before .before .before .before .before .before .before .before .before .before .before .before .before .before .before .before .prepare .last .1 .1 .1 .0)
-    (c .before .before .before .before .before .before .before .before .before .before .before .before .before .before .before .before .before .before .before .before .before .prepare .last .1 .1 .1 .1 .0)
-    (c .before .before .before .before .before .before .before .before .before .before .before .before .before .before .before .before .before .before .before .before .before .prepare .result .passing)
-    (c .before .before .before .before .before .before .before .before .before .before .before .before .before .before .before .before .before .before .before .before .before .prepare .result)
-    (c .before .before .before .before .before .before .before .before .before .before .before .before .before .before .before .before .before .before .before .before .before .prepare .ensures)
-    (c .before .before .before .before .before .before .before .before .before .before .before .before .before .before .before .enum-told .given .1)
+    let c3 = c .before .before .before in
+    let c11 = c3 .before .before .before .before .before .before .before .before in
+    let c15 = c11 .before .before .before .before in
+    let c21 = c15 .before .before .before .before .before .before in
+    let c29 = c21 .before .before .before .before .before .before .before .before in
+    let m = is-ready (c29 .args .table .now) (c21 .prepare .last .1 .0) (c21 .prepare .last .1 .1 .0)
+    (c21 .prepare .last .1 .1 .1 .0) (c21 .prepare .last .1 .1 .1 .1 .0) (c21 .prepare .result .passing)
+    (c21 .prepare .result) (c21 .prepare .ensures) (c15 .enum-told .given .1)
     in
-    let f = checked-fine
-    (c .before .before .before .before .before .before .before .before .before .before .before .before .before .before .before .before .before .before .before .before .before .before .before .before .before .before .before .before .before .args .children .now)
-    (c .before .before .before .before .before .before .before .before .before .before .before .before .before .check .result)
-    (c .before .before .before .before .before .before .before .before .before .before .before .before .before .check .ensures)
-    (c .before .before .before .before .before .before .before .before .before .before .before .enum-told2 .given .1)
+    let f = checked-fine (c29 .args .children .now) (c11 .before .before .check .result)
+    (c11 .before .before .check .ensures) (c11 .enum-told2 .given .1)
     in
-    let w = c .before .before .before .place-children .result in
-    subst (λ r. MatchAnswer
-    (c .before .before .before .before .before .before .before .before .before .before .before .before .before .before .before .before .before .before .before .before .before .before .before .before .before .before .before .before .before .args .table .now)
-    (c .before .before .before .before .before .before .before .before .before .before .before .before .before .before .before .before .before .before .before .before .before .before .before .before .before .before .before .before .before .args .children .now)
-    (c .before .before .before .before .before .before .before .before .before .before .before .before .before .before .before .before .before .before .before .before .before .before .before .before .before .before .before .before .before .args .slots .now)
-    r (c .before .before .before .place-children .last .1 .1 .1 .1 .1 .1 .1 .1 .0)) (sym (c .answer-of .ensures))
-    (match-placed
-    (c .before .before .before .before .before .before .before .before .before .before .before .before .before .before .before .before .before .before .before .before .before .before .before .before .before .before .before .before .before .args .table .now)
-    (c .before .before .before .before .before .before .before .before .before .before .before .before .before .before .before .before .before .before .before .before .before .before .before .before .before .before .before .before .before .args .children .now)
-    (c .before .before .before .before .before .before .before .before .before .before .before .before .before .before .before .before .before .before .before .before .before .before .before .before .before .before .before .before .before .args .slots .now)
-    _ (c .before .before .before .place-children .last .1 .1 .1 .1 .1 .1 .1 .1 .0) (walk-placed
-    (c .before .before .before .before .before .before .before .before .before .before .before .before .before .before .before .before .before .before .before .before .before .before .before .before .before .before .before .before .before .args .table .now)
-    (c .before .before .before .before .before .before .before .before .before .before .before .before .before .before .before .before .before .before .before .before .before .before .before .before .before .before .before .before .before .args .children .now)
-    (c .before .before .before .before .before .before .before .before .before .before .before .before .before .before .before .before .before .before .before .before .before .before .before .before .before .before .before .before .before .args .slots .now)
-    (m .model) (m .passed) (f .0) (f .1) w
-    (c .before .before .before .place-children .last .1 .1 .1 .1 .1 .1 .1 .1 .0)
-    (c .before .before .before .place-children .ensures .1 (m .model) (m .known) (checked-sound
-    (c .before .before .before .before .before .before .before .before .before .before .before .before .before .before .before .before .before .before .before .before .before .before .before .before .before .before .before .before .before .args .children .now)
+    let w = c3 .place-children .result in
+    subst (λ r. MatchAnswer (c29 .args .table .now) (c29 .args .children .now) (c29 .args .slots .now)
+    r (c3 .place-children .last .1 .1 .1 .1 .1 .1 .1 .1 .0)) (sym (c .answer-of .ensures)) (match-placed
+    (c29 .args .table .now) (c29 .args .children .now) (c29 .args .slots .now)
+    _ (c3 .place-children .last .1 .1 .1 .1 .1 .1 .1 .1 .0) (walk-placed (c29 .args .table .now)
+    (c29 .args .children .now) (c29 .args .slots .now) (m .model) (m .passed) (f .0) (f .1) w
+    (c3 .place-children .last .1 .1 .1 .1 .1 .1 .1 .1 .0)
+    (c3 .place-children .ensures .1 (m .model) (m .known) (checked-sound (c29 .args .children .now)
     (f .1))) _ (m .stops (w .held .0)) (search needs)))
 
 pub match-children-spec : {M : Type 1} → statement M

@@ -42,52 +42,56 @@ loop-less : tie.Need-loop-less Inv-loop μ-loop
 loop-less c = search needs
 
 loop-again : tie.Need-loop-again Inv-loop μ-loop
-loop-again c = (
-  search needs,
-  (
-    search needs,
-    (
+loop-again c =
+    let c4 = c .before .before .before .before in
+    let c8 = c4 .before .before .before .before in (
       search needs,
-      names-skip
-          (c .before .before .before .before .before .before .before .before .args .words .now)
-          (c .before .before .before .before .before .loop .names) (c .before .before .before .before .before .loop .n)
-          (c .before .before .before .before .before .loop .i) (c .before .before .before .before .loop-test .taken)
-          (c .before .before .before .before .before .loop .inv .1 .1 .1) (sym (c .before .is-name .ensures ∙ ap (λ z.
-          isName (z .kind)) (c .before .before .node-of .ensures)) ∙ not-true _ (c .if1 .taken)),
-    ),
-  ),
-)
+      (
+        search needs,
+        (
+          search needs,
+          names-skip
+              (c8 .args .words .now) (c4 .before .loop .names) (c4 .before .loop .n)
+              (c4 .before .loop .i) (c4 .loop-test .taken)
+              (c4 .before .loop .inv .1 .1 .1) (sym (c .before .is-name .ensures ∙ ap (λ z.
+              isName (z .kind)) (c .before .before .node-of .ensures)) ∙ not-true _ (c .if1 .taken)),
+        ),
+      ),
+    )
 
 mul-names : tie.Need-mul-names Inv-loop μ-loop
 mul-names c =
+    let c4 = c .before .before .before .before in
+    let c8 = c4 .before .before .before .before in
     omega (
       arith,
-      names-room (c .before .before .before .before .before .before .before .before .args .words .now)
-          (c .before .before .before .before .before .loop .names) (c .before .before .before .before .before .loop .n)
-          (c .before .before .before .before .before .loop .i) (c .before .before .before .before .loop-test .taken)
-          (c .before .before .before .before .before .loop .inv .1 .1 .1) (sym (c .before .is-name .ensures ∙ ap (λ z.
+      names-room (c8 .args .words .now)
+          (c4 .before .loop .names) (c4 .before .loop .n) (c4 .before .loop .i) (c4 .loop-test .taken)
+          (c4 .before .loop .inv .1 .1 .1) (sym (c .before .is-name .ensures ∙ ap (λ z.
           isName (z .kind)) (c .before .before .node-of .ensures)) ∙ not-false _ (c .if1 .left)) (search needs),
     )
 
 slice-write-names : tie.Need-slice-write-names Inv-loop μ-loop
 slice-write-names c =
+    let c4 = c .before .before .before .before in
+    let c8 = c4 .before .before .before .before in
     omega (
       arith,
-      names-room (c .before .before .before .before .before .before .before .before .args .words .now)
-          (c .before .before .before .before .before .loop .names) (c .before .before .before .before .before .loop .n)
-          (c .before .before .before .before .before .loop .i) (c .before .before .before .before .loop-test .taken)
-          (c .before .before .before .before .before .loop .inv .1 .1 .1) (sym (c .before .is-name .ensures ∙ ap (λ z.
+      names-room (c8 .args .words .now)
+          (c4 .before .loop .names) (c4 .before .loop .n) (c4 .before .loop .i) (c4 .loop-test .taken)
+          (c4 .before .loop .inv .1 .1 .1) (sym (c .before .is-name .ensures ∙ ap (λ z.
           isName (z .kind)) (c .before .before .node-of .ensures)) ∙ not-false _ (c .if1 .left)) (search needs),
     )
 
 add-n : tie.Need-add-n Inv-loop μ-loop
 add-n c =
+    let c4 = c .before .before .before .before in
+    let c8 = c4 .before .before .before .before in
     omega (
       arith,
-      names-room (c .before .before .before .before .before .before .before .before .args .words .now)
-          (c .before .before .before .before .before .loop .names) (c .before .before .before .before .before .loop .n)
-          (c .before .before .before .before .before .loop .i) (c .before .before .before .before .loop-test .taken)
-          (c .before .before .before .before .before .loop .inv .1 .1 .1) (sym (c .before .is-name .ensures ∙ ap (λ z.
+      names-room (c8 .args .words .now)
+          (c4 .before .loop .names) (c4 .before .loop .n) (c4 .before .loop .i) (c4 .loop-test .taken)
+          (c4 .before .loop .inv .1 .1 .1) (sym (c .before .is-name .ensures ∙ ap (λ z.
           isName (z .kind)) (c .before .before .node-of .ensures)) ∙ not-false _ (c .if1 .left)) (search needs),
     )
 
@@ -96,10 +100,11 @@ loop-less-2 c = search needs
 
 loop-again-2 : tie.Need-loop-again-2 Inv-loop μ-loop
 loop-again-2 c =
-    let r = names-room (c .before .before .before .before .before .before .before .before .args .words .now)
-    (c .before .before .before .before .before .loop .names) (c .before .before .before .before .before .loop .n)
-    (c .before .before .before .before .before .loop .i) (c .before .before .before .before .loop-test .taken)
-    (c .before .before .before .before .before .loop .inv .1 .1 .1) (sym (c .before .is-name .ensures ∙ ap (λ z.
+    let c4 = c .before .before .before .before in
+    let c8 = c4 .before .before .before .before in
+    let r = names-room (c8 .args .words .now) (c4 .before .loop .names) (c4 .before .loop .n)
+    (c4 .before .loop .i) (c4 .loop-test .taken)
+    (c4 .before .loop .inv .1 .1 .1) (sym (c .before .is-name .ensures ∙ ap (λ z.
     isName (z .kind)) (c .before .before .node-of .ensures)) ∙ not-false _ (c .if1 .left)) (search needs) in
     let e = ap (λ z. z .value) (c .before .before .node-of .ensures) in (
       search needs,
@@ -109,16 +114,11 @@ loop-again-2 c =
           omega (
             arith,
             length-set
-                (c .before .before .before .before .before .loop .names)
-                (c .before .before .before .before .before .loop .n)
-                (c .before .before .node-of .result .value),
+                (c4 .before .loop .names) (c4 .before .loop .n) (c .before .before .node-of .result .value),
           ),
           rw e (names-put
-              (c .before .before .before .before .before .before .before .before .args .words .now)
-              (c .before .before .before .before .before .loop .names)
-              (c .before .before .before .before .before .loop .n)
-              (c .before .before .before .before .before .loop .i) (c .before .before .before .before .loop-test .taken)
-              (c .before .before .before .before .before .loop .inv .1 .1 .1)
+              (c8 .args .words .now) (c4 .before .loop .names) (c4 .before .loop .n)
+              (c4 .before .loop .i) (c4 .loop-test .taken) (c4 .before .loop .inv .1 .1 .1)
               (sym (c .before .is-name .ensures ∙ ap (λ z.
               isName (z .kind)) (c .before .before .node-of .ensures))
               ∙ not-false _ (c .if1 .left)) (omega (arith, r))),

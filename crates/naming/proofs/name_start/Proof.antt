@@ -81,14 +81,14 @@ loop-less : tie.Need-loop-less Inv-loop μ-loop
 loop-less c = search needs
 
 loop-again : tie.Need-loop-again Inv-loop μ-loop
-loop-again c = (
-  search needs,
-  λ t nm. pass-next (c .before .before .before .before .before .before .args .table .now)
-      (c .before .before .before .before .before .before .args .nodes)
-      (c .before .before .before .before .before .before .args .i .0) t nm (c .before .before .before .before .loop .j)
-      (c .before .before .before .before .loop .at) (c .before .before .before .before .loop .inv .1 t nm) (omega
-      (arith, nm .number, c .before .before .if1 .taken)) (c .wide-byte .result) (c .wide-byte .ensures .0),
-)
+loop-again c =
+    let c4 = c .before .before .before .before in (
+      search needs,
+      λ t nm. pass-next (c4 .before .before .args .table .now)
+          (c4 .before .before .args .nodes) (c4 .before .before .args .i .0) t nm (c4 .loop .j)
+          (c4 .loop .at) (c4 .loop .inv .1 t nm) (omega
+          (arith, nm .number, c .before .before .if1 .taken)) (c .wide-byte .result) (c .wide-byte .ensures .0),
+    )
 
 add-result : tie.Need-add-result Inv-loop μ-loop
 add-result c =

@@ -47,14 +47,11 @@ slice-aggregate-fill-names c = search needs
 
 fill-names-requires : tie.Need-fill-names-requires
 fill-names-requires c κs =
-    let m = loaded
-    (c .before .before .before .before .before .before .before .before .before .before .before .before .before .before .args .table .now)
-    (c .before .before .before .before .before .before .before .before .before .load .last .1 .0)
-    (c .before .before .before .before .before .before .before .before .before .load .last .1 .1 .0)
-    (c .before .before .before .before .before .before .before .before .before .load .last .1 .1 .1 .0) _
-    (c .before .before .before .before .loaded .given .0 .0)
-    (c .before .before .before .before .before .before .before .before .before .load .ensures)
-    (c .before .before .before .before .loaded .given .1) in
+    let c4 = c .before .before .before .before in
+    let c9 = c4 .before .before .before .before .before in
+    let c14 = c9 .before .before .before .before .before in
+    let m = loaded (c14 .args .table .now) (c9 .load .last .1 .0) (c9 .load .last .1 .1 .0)
+    (c9 .load .last .1 .1 .1 .0) _ (c4 .loaded .given .0 .0) (c9 .load .ensures) (c4 .loaded .given .1) in
     let e = fits-count (numbers (m .model)) _ (m .fits) in
     (search needs, omega (arith, e, m .fits .few))
 

@@ -49,7 +49,10 @@ same-length c = search needs
 
 returns : tie.Need-returns
 returns c =
-    let a = c .before .before .before .before .before .before .before .before .before .before .before in
+    let c3 = c .before .before .before in
+    let c7 = c3 .before .before .before .before in
+    let c11 = c7 .before .before .before .before in
+    let a = c11 in
     let s = a .before .before .before .before .before .before .before in
     let src = s .args .text .now in
     let ws = s .args .words .now in
@@ -58,8 +61,8 @@ returns c =
     let k = s .args .counts in
     let t = s .args .table .now in
     let p = a .put-header in
-    let q = c .before .before .before .before .before .before .before .put-nodes in
-    let r = c .before .before .before .put-names in
+    let q = c7 .put-nodes in
+    let r = c3 .put-names in
     draft-packed src ws ss ls k t (s .pre) (p .result .at) (p .last .0) (p .ensures) (q .result .at) (q .last .0)
     (q .ensures) (r .result .at) (r .last .0) (r .ensures)
     (λ i. omega (arith, a .before .before .slice-known .given i))

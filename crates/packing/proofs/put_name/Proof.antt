@@ -60,16 +60,18 @@ loop-less c = omega arith
 
 loop-again : tie.Need-loop-again Inv-loop μ-loop
 loop-again c =
-    let a = c .before .before .before .before .before .before .before in
+    let c3 = c .before .before .before in
+    let c6 = c3 .before .before .before in
+    let a = c6 .before in
     let l = a .loop in
     let s = a .before .before .before .before .before .before .before in
     let k = byte-left (s .args .text .now) (s .args .start) (s .args .size) (s .pre .0) (l .i) (l .inv .1)
-    (c .before .before .before .before .before .before .loop-test .taken) in
+    (c6 .loop-test .taken) in
     let q = c .before .before .put2 in (
       omega arith,
       field-then k (q .result .at) (q .last .1 .0) (
         subst (λ (x : ℕ). bitsOf (q .last .1 .0) ≡ paste (bitsOf (l .table)) (l .next .at) (bitsN 8 x) 8)
-            (c .before .before .before .wide8 .ensures) (q .ensures .0),
+            (c3 .wide8 .ensures) (q .ensures .0),
         q .ensures .1,
       ),
     )

@@ -23,23 +23,23 @@ loop-holds c =
       names-start (s .args .text .now) (s .args .starts .now) (s .args .lengths .now) (s .args .names) (s .pre .fits),
     )
 
-mul-wide16 : tie.Need-mul-wide16 Inv-loop μ-loop
-mul-wide16 c = omega arith
+mul-wide : tie.Need-mul-wide Inv-loop μ-loop
+mul-wide c = omega arith
 
-shared-slice-read-wide16 : tie.Need-shared-slice-read-wide16 Inv-loop μ-loop
-shared-slice-read-wide16 c = omega arith
+shared-slice-read-wide : tie.Need-shared-slice-read-wide Inv-loop μ-loop
+shared-slice-read-wide c = omega arith
 
-wide16-requires : tie.Need-wide16-requires Inv-loop μ-loop
-wide16-requires c κs = omega arith
+wide-requires : tie.Need-wide-requires Inv-loop μ-loop
+wide-requires c κs = omega arith
 
-mul-wide16-2 : tie.Need-mul-wide16-2 Inv-loop μ-loop
-mul-wide16-2 c = omega arith
+mul-wide-2 : tie.Need-mul-wide-2 Inv-loop μ-loop
+mul-wide-2 c = omega arith
 
-shared-slice-read-wide16-2 : tie.Need-shared-slice-read-wide16-2 Inv-loop μ-loop
-shared-slice-read-wide16-2 c = omega arith
+shared-slice-read-wide-2 : tie.Need-shared-slice-read-wide-2 Inv-loop μ-loop
+shared-slice-read-wide-2 c = omega arith
 
-wide16-requires-2 : tie.Need-wide16-requires-2 Inv-loop μ-loop
-wide16-requires-2 c κs = omega arith
+wide-requires-2 : tie.Need-wide-requires-2 Inv-loop μ-loop
+wide-requires-2 c κs = omega arith
 
 put-name-requires : tie.Need-put-name-requires Inv-loop μ-loop
 put-name-requires c κs =
@@ -47,8 +47,8 @@ put-name-requires c κs =
     let l = a .loop in
     let s = a .before .before .before .before .before in
     let h = c .before .before .before .before .before .loop-test .taken in
-    let x = c .before .before .before .wide16 .ensures in
-    let y = c .before .wide162 .ensures in
+    let x = c .before .before .before .wide .ensures .0 in
+    let y = c .before .wide2 .ensures .0 in
     let w = s .pre .within (l .i) h in
     let z = s .pre .short (l .i) h in (
       omega arith,
@@ -65,12 +65,14 @@ loop-less c = omega arith
 
 loop-again : tie.Need-loop-again Inv-loop μ-loop
 loop-again c =
-    let a = c .before .before .before .before .before .before .before .before .before in
+    let c4 = c .before .before .before .before in
+    let c8 = c4 .before .before .before .before in
+    let a = c8 .before in
     let l = a .loop in
     let s = a .before .before .before .before .before in
-    let h = c .before .before .before .before .before .before .before .before .loop-test .taken in
-    let x = c .before .before .before .before .before .before .wide16 .ensures in
-    let y = c .before .before .before .before .wide162 .ensures in (
+    let h = c8 .loop-test .taken in
+    let x = c4 .before .before .wide .ensures .0 in
+    let y = c4 .wide2 .ensures .0 in (
       omega arith,
       name-then (s .args .text .now) (s .args .starts .now) (s .args .lengths .now) (s .args .names) (l .i)
           (l .inv .1) x y h (c .before .before .put-name .ensures),
@@ -93,12 +95,12 @@ put-names-spec =
     Inv-loop
     μ-loop
     loop-holds
-    mul-wide16
-    shared-slice-read-wide16
-    wide16-requires
-    mul-wide16-2
-    shared-slice-read-wide16-2
-    wide16-requires-2
+    mul-wide
+    shared-slice-read-wide
+    wide-requires
+    mul-wide-2
+    shared-slice-read-wide-2
+    wide-requires-2
     put-name-requires
     add-i
     loop-less

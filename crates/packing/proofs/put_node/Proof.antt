@@ -46,14 +46,16 @@ put-requires-2 c κs =
 
 put-requires-3 : tie.Need-put-requires-3
 put-requires-3 c κs =
-    let a = c .before .before .before .before .before .before .before in
+    let c3 = c .before .before .before in
+    let c7 = c3 .before .before .before .before in
+    let a = c7 in
     let p = a .put in
     let v = a .before .before .value-of in
     let m = a .before .before .before .mark-of in
     let k = a .before .before .before .before .kind-of in
     let s = a .before .before .before .before .before .before in
     let l = node-start (s .args .word) (k .ensures) (m .ensures) (v .ensures .0) (s .pre .1) in
-    let q = c .before .before .before .put2 in
+    let q = c3 .put2 in
     let l₁ = field-then l (p .result .at) (p .last .1 .0) (p .ensures) in
     field-room (field-then l₁ (q .result .at) (q .last .1 .0) (q .ensures)) (omega arith)
 
@@ -62,14 +64,16 @@ same-length c = search needs
 
 returns : tie.Need-returns
 returns c =
-    let a = c .before .before .before .before .before .before .before .before .before .before in
+    let c6 = c .before .before .before .before .before .before in
+    let c10 = c6 .before .before .before .before in
+    let a = c10 in
     let p = a .put in
     let v = a .before .before .value-of in
     let m = a .before .before .before .mark-of in
     let k = a .before .before .before .before .kind-of in
     let s = a .before .before .before .before .before .before in
     let l = node-start (s .args .word) (k .ensures) (m .ensures) (v .ensures .0) (s .pre .1) in
-    let q = c .before .before .before .before .before .before .put2 in
+    let q = c6 .put2 in
     let r = c .before .before .put3 in
     let l₁ = field-then l (p .result .at) (p .last .1 .0) (p .ensures) in
     let l₂ = field-then l₁ (q .result .at) (q .last .1 .0) (q .ensures) in

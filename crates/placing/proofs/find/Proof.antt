@@ -22,20 +22,16 @@ abbrev μ-loop : tie.MeasureT-loop
 μ-loop table starts lengths names slots next name x₀ x = slots + 1 - x
 
 loop-holds : tie.Need-loop-holds Inv-loop μ-loop
-loop-holds c = (
-  search needs,
-  (
-    search needs,
-    λ t p here comes. none-first t
-        (c .before .before .before .before .before .args .table .now)
-        (c .before .before .before .before .before .args .starts .now)
-        (c .before .before .before .before .before .args .lengths .now)
-        (c .before .before .before .before .before .args .names .now)
-        (c .before .before .before .before .before .args .slots) here p
-        (c .before .before .before .before .before .args .next .marks) comes
-        (c .before .before .before .before .before .args .name .now),
-  ),
-)
+loop-holds c =
+    let c5 = c .before .before .before .before .before in (
+      search needs,
+      (
+        search needs,
+        λ t p here comes. none-first t
+            (c5 .args .table .now) (c5 .args .starts .now) (c5 .args .lengths .now) (c5 .args .names .now)
+            (c5 .args .slots) here p (c5 .args .next .marks) comes (c5 .args .name .now),
+      ),
+    )
 
 has-requires : tie.Need-has-requires Inv-loop μ-loop
 has-requires c κs = search needs
@@ -47,22 +43,19 @@ loop-less : tie.Need-loop-less Inv-loop μ-loop
 loop-less c = search needs
 
 loop-again : tie.Need-loop-again Inv-loop μ-loop
-loop-again c = (
-  search needs,
-  (
-    search needs,
-    λ t p here comes. none-skip t
-        (c .before .before .before .before .before .before .before .before .before .args .table .now)
-        (c .before .before .before .before .before .before .before .before .before .args .starts .now)
-        (c .before .before .before .before .before .before .before .before .before .args .lengths .now)
-        (c .before .before .before .before .before .before .before .before .before .args .names .now)
-        (c .before .before .before .before .before .before .before .before .before .args .slots) here p
-        (c .before .before .before .before .before .before .before .before .before .args .next .marks) comes
-        (c .before .before .before .before .before .before .before .before .before .args .name .now)
-        (c .before .before .before .loop .x) (c .before .before .before .loop .inv .1 .1 t p here comes) (sym
-        (c .before .has .ensures) ∙ not-true _ (c .if1 .taken)),
-  ),
-)
+loop-again c =
+    let c3 = c .before .before .before in
+    let c9 = c3 .before .before .before .before .before .before in (
+      search needs,
+      (
+        search needs,
+        λ t p here comes. none-skip t
+            (c9 .args .table .now) (c9 .args .starts .now) (c9 .args .lengths .now) (c9 .args .names .now)
+            (c9 .args .slots) here p (c9 .args .next .marks) comes (c9 .args .name .now)
+            (c3 .loop .x) (c3 .loop .inv .1 .1 t p here comes) (sym
+            (c .before .has .ensures) ∙ not-true _ (c .if1 .taken)),
+      ),
+    )
 
 number-at-requires : tie.Need-number-at-requires Inv-loop μ-loop
 number-at-requires c κs = search needs
@@ -86,64 +79,54 @@ wide-requires c κs = search needs
 
 mul-wide-2 : tie.Need-mul-wide-2 Inv-loop μ-loop
 mul-wide-2 c =
+    let c6 = c .before .before .before .before .before .before in
+    let c12 = c6 .before .before .before .before .before .before in
     let q =
-    c .before .before .before .before .before .before .before .before .before .before .before .before .pre .1 .1 .names-of
-    (c .before .before .before .before .before .before .loop .x)
-    (c .before .before .before .before .before .before .loop .inv .0) (search needs) in
+    c12 .pre .1 .1 .names-of (c6 .loop .x) (c6 .loop .inv .0) (search needs) in
     omega (arith, q .number, c .before .before .number-at .ensures .is)
 
 shared-slice-read-wide-2 : tie.Need-shared-slice-read-wide-2 Inv-loop μ-loop
 shared-slice-read-wide-2 c =
+    let c3 = c .before .before .before in
+    let c7 = c3 .before .before .before .before in
+    let c13 = c7 .before .before .before .before .before .before in
     let q =
-    c .before .before .before .before .before .before .before .before .before .before .before .before .before .pre .1 .1 .names-of
-    (c .before .before .before .before .before .before .before .loop .x)
-    (c .before .before .before .before .before .before .before .loop .inv .0) (search needs) in
-    omega (arith, q .number, c .before .before .before .number-at .ensures .is)
+    c13 .pre .1 .1 .names-of (c7 .loop .x) (c7 .loop .inv .0) (search needs) in
+    omega (arith, q .number, c3 .number-at .ensures .is)
 
 wide-requires-2 : tie.Need-wide-requires-2 Inv-loop μ-loop
 wide-requires-2 c κs = search needs
 
 is-named-requires : tie.Need-is-named-requires Inv-loop μ-loop
 is-named-requires c κs =
+    let c4 = c .before .before .before .before in
+    let c8 = c4 .before .before .before .before in
+    let c14 = c8 .before .before .before .before .before .before in
     let q =
-    c .before .before .before .before .before .before .before .before .before .before .before .before .before .before .pre .1 .1 .names-of
-    (c .before .before .before .before .before .before .before .before .loop .x)
-    (c .before .before .before .before .before .before .before .before .loop .inv .0) (search needs) in
-    let b = subst (λ m. getD
-    (c .before .before .before .before .before .before .before .before .before .before .before .before .before .before .args .starts .now)
-    m 0 + getD
-    (c .before .before .before .before .before .before .before .before .before .before .before .before .before .before .args .lengths .now)
-    m 0 ≤ length
-    (c .before .before .before .before .before .before .before .before .before .before .before .before .before .before .args .table .now))
-    (sym (c .before .before .before .before .number-at .ensures .is)) (q .placed .within) in
+    c14 .pre .1 .1 .names-of (c8 .loop .x) (c8 .loop .inv .0) (search needs) in
+    let b = subst (λ m. getD (c14 .args .starts .now)
+    m 0 + getD (c14 .args .lengths .now)
+    m 0 ≤ length (c14 .args .table .now)) (sym (c4 .number-at .ensures .is)) (q .placed .within) in
     omega (arith, b, c .before .before .wide .ensures .0, c .wide2 .ensures .0)
 
 returns : tie.Need-returns Inv-loop μ-loop
-returns c = (
-  search needs,
-  λ t p here comes. finds-slot t p
-      (c .before .before .before .before .before .before .before .before .before .before .before .before .before .before .before .before .args .name .now)
-      (c .before .before .before .before .before .before .before .before .before .before .loop .x)
-      (c .before .before .before .before .before .before .before .before .before .before .loop .inv .0) (found-here t
-      (c .before .before .before .before .before .before .before .before .before .before .before .before .before .before .before .before .args .table .now)
-      (c .before .before .before .before .before .before .before .before .before .before .before .before .before .before .before .before .args .starts .now)
-      (c .before .before .before .before .before .before .before .before .before .before .before .before .before .before .before .before .args .lengths .now)
-      (c .before .before .before .before .before .before .before .before .before .before .before .before .before .before .before .before .args .names .now)
-      (c .before .before .before .before .before .before .before .before .before .before .before .before .before .before .before .before .args .slots)
-      here p
-      (c .before .before .before .before .before .before .before .before .before .before .before .before .before .before .before .before .args .next .marks)
-      comes
-      (c .before .before .before .before .before .before .before .before .before .before .before .before .before .before .before .before .args .name .now)
-      (c .before .before .before .before .before .before .before .before .before .before .loop .x)
-      (c .before .before .before .before .before .before .number-at .result .0)
-      (c .before .before .before .before .wide .result) (c .before .before .wide2 .result)
-      (c .before .before .before .before .before .before .before .before .before .before .loop .inv .0) (search needs)
-      (c .before .before .before .before .before .before .number-at .ensures .is)
-      (c .before .before .before .before .wide .ensures .0) (c .before .before .wide2 .ensures .0) (sym
-      (c .before .before .before .before .before .before .before .before .has .ensures) ∙ not-false _
-      (c .before .before .before .before .before .before .before .if1 .left)) (subst (Says _) (c .if2 .taken)
-      (c .before .is-named .ensures))),
-)
+returns c =
+    let c4 = c .before .before .before .before in
+    let c7 = c4 .before .before .before in
+    let c10 = c7 .before .before .before in
+    let c16 = c10 .before .before .before .before .before .before in (
+      search needs,
+      λ t p here comes. finds-slot t p
+          (c16 .args .name .now) (c10 .loop .x) (c10 .loop .inv .0) (found-here t (c16 .args .table .now)
+          (c16 .args .starts .now) (c16 .args .lengths .now) (c16 .args .names .now) (c16 .args .slots)
+          here p (c16 .args .next .marks)
+          comes (c16 .args .name .now) (c10 .loop .x) (c4 .before .before .number-at .result .0)
+          (c4 .wide .result) (c .before .before .wide2 .result) (c10 .loop .inv .0) (search needs)
+          (c4 .before .before .number-at .ensures .is) (c4 .wide .ensures .0)
+          (c .before .before .wide2 .ensures .0) (sym
+          (c7 .before .has .ensures) ∙ not-false _ (c7 .if1 .left)) (subst (Says _) (c .if2 .taken)
+          (c .before .is-named .ensures))),
+    )
 
 add-x-2 : tie.Need-add-x-2 Inv-loop μ-loop
 add-x-2 c = search needs
@@ -152,45 +135,35 @@ loop-less-2 : tie.Need-loop-less-2 Inv-loop μ-loop
 loop-less-2 c = search needs
 
 loop-again-2 : tie.Need-loop-again-2 Inv-loop μ-loop
-loop-again-2 c = (
-  search needs,
-  (
-    search needs,
-    λ t p here comes. none-other t
-        (c .before .before .before .before .before .before .before .before .before .before .before .before .before .before .before .before .args .table .now)
-        (c .before .before .before .before .before .before .before .before .before .before .before .before .before .before .before .before .args .starts .now)
-        (c .before .before .before .before .before .before .before .before .before .before .before .before .before .before .before .before .args .lengths .now)
-        (c .before .before .before .before .before .before .before .before .before .before .before .before .before .before .before .before .args .names .now)
-        (c .before .before .before .before .before .before .before .before .before .before .before .before .before .before .before .before .args .slots)
-        here p
-        (c .before .before .before .before .before .before .before .before .before .before .before .before .before .before .before .before .args .next .marks)
-        comes
-        (c .before .before .before .before .before .before .before .before .before .before .before .before .before .before .before .before .args .name .now)
-        (c .before .before .before .before .before .before .before .before .before .before .loop .x)
-        (c .before .before .before .before .before .before .number-at .result .0)
-        (c .before .before .before .before .wide .result) (c .before .before .wide2 .result)
-        (c .before .before .before .before .before .before .before .before .before .before .loop .inv .0) (search needs)
-        (c .before .before .before .before .before .before .number-at .ensures .is)
-        (c .before .before .before .before .wide .ensures .0) (c .before .before .wide2 .ensures .0) (subst (Says _)
-        (c .if2 .left) (c .before .is-named .ensures))
-        (c .before .before .before .before .before .before .before .before .before .before .loop .inv .1 .1 t p here
-        comes),
-  ),
-)
+loop-again-2 c =
+    let c4 = c .before .before .before .before in
+    let c10 = c4 .before .before .before .before .before .before in
+    let c16 = c10 .before .before .before .before .before .before in (
+      search needs,
+      (
+        search needs,
+        λ t p here comes. none-other t
+            (c16 .args .table .now) (c16 .args .starts .now) (c16 .args .lengths .now) (c16 .args .names .now)
+            (c16 .args .slots)
+            here p (c16 .args .next .marks)
+            comes (c16 .args .name .now) (c10 .loop .x) (c4 .before .before .number-at .result .0)
+            (c4 .wide .result) (c .before .before .wide2 .result) (c10 .loop .inv .0) (search needs)
+            (c4 .before .before .number-at .ensures .is)
+            (c4 .wide .ensures .0) (c .before .before .wide2 .ensures .0) (subst (Says _)
+            (c .if2 .left) (c .before .is-named .ensures)) (c10 .loop .inv .1 .1 t p here
+            comes),
+      ),
+    )
 
 returns-2 : tie.Need-returns-2 Inv-loop μ-loop
-returns-2 c = (
-  search needs,
-  λ t p here comes. finds-none t
-      (c .before .before .before .before .before .before .before .args .table .now)
-      (c .before .before .before .before .before .before .before .args .starts .now)
-      (c .before .before .before .before .before .before .before .args .lengths .now)
-      (c .before .before .before .before .before .before .before .args .names .now)
-      (c .before .before .before .before .before .before .before .args .slots) here p
-      (c .before .before .before .before .before .before .before .args .next .marks) comes
-      (c .before .before .before .before .before .before .before .args .name .now) (c .before .loop .x)
-      (c .loop-test .left) (c .before .loop .inv .1 .1 t p here comes),
-)
+returns-2 c =
+    let c7 = c .before .before .before .before .before .before .before in (
+      search needs,
+      λ t p here comes. finds-none t
+          (c7 .args .table .now) (c7 .args .starts .now) (c7 .args .lengths .now) (c7 .args .names .now)
+          (c7 .args .slots) here p (c7 .args .next .marks) comes (c7 .args .name .now) (c .before .loop .x)
+          (c .loop-test .left) (c .before .loop .inv .1 .1 t p here comes),
+    )
 
 pub find-spec : {M : Type 1} → statement M
 find-spec =

@@ -47,32 +47,32 @@ same-length : tie.Need-same-length Inv-loop μ-loop
 same-length c = c .before .before .loop .inv .1 .1 .1 .0
 
 returns : tie.Need-returns Inv-loop μ-loop
-returns c = (
-  search needs,
-  λ t known sound. record {
-    placing = (c .before .before .loop .inv .1 .1 .1 .1 t known
-        sound) .placing;
-    ends = all-placed t
-        ((c .before .before .before .before .before .before .before .before .before .before .args .children) .now)
-        ((c .before .before .before .before .before .before .before .before .before .before .args .room) .now)
-        (c .before .before .loop .placed) (c .before .before .loop .held) (c .before .before .loop .i)
-        (c .before .before .loop .room) (c .before .before .loop .inv .1 .1 .1 .1 t known sound)
-        (c .before .next-word .result .start) (c .before .next-word .result .end) (c .before .next-word .ensures)
-        (c .if1 .taken);
-  },
-)
+returns c =
+    let c10 = c .before .before .before .before .before .before .before .before .before .before in (
+      search needs,
+      λ t known sound. record {
+        placing = (c .before .before .loop .inv .1 .1 .1 .1 t known
+            sound) .placing;
+        ends = all-placed t
+            ((c10 .args .children) .now) ((c10 .args .room) .now)
+            (c .before .before .loop .placed) (c .before .before .loop .held) (c .before .before .loop .i)
+            (c .before .before .loop .room) (c .before .before .loop .inv .1 .1 .1 .1 t known sound)
+            (c .before .next-word .result .start) (c .before .next-word .result .end) (c .before .next-word .ensures)
+            (c .if1 .taken);
+      },
+    )
 
 nexts-requires : tie.Need-nexts-requires Inv-loop μ-loop
 nexts-requires c κs = search needs
 
-sub-find : tie.Need-sub-find Inv-loop μ-loop
-sub-find c = let w = (c .before .before .next-word .ensures) .word in omega (arith, w .from, w .within)
+sub-name : tie.Need-sub-name Inv-loop μ-loop
+sub-name c = let w = (c .before .before .next-word .ensures) .word in omega (arith, w .from, w .within)
 
-part-find-start : tie.Need-part-find-start Inv-loop μ-loop
-part-find-start c = let w = (c .before .before .next-word .ensures) .word in omega (arith, w .from, w .within)
+part-name-start : tie.Need-part-name-start Inv-loop μ-loop
+part-name-start c = let w = (c .before .before .next-word .ensures) .word in omega (arith, w .from, w .within)
 
-part-find-end : tie.Need-part-find-end Inv-loop μ-loop
-part-find-end c = let w = (c .before .before .next-word .ensures) .word in omega (arith, w .from, w .within)
+part-name-end : tie.Need-part-name-end Inv-loop μ-loop
+part-name-end c = let w = (c .before .before .next-word .ensures) .word in omega (arith, w .from, w .within)
 
 find-requires : tie.Need-find-requires Inv-loop μ-loop
 find-requires c κs =
@@ -83,45 +83,37 @@ same-length-2 : tie.Need-same-length-2 Inv-loop μ-loop
 same-length-2 c = c .before .before .before .before .before .before .before .loop .inv .1 .1 .1 .0
 
 returns-2 : tie.Need-returns-2 Inv-loop μ-loop
-returns-2 c = (
-  search needs,
-  λ t known sound. record {
-    placing =
-        (c .before .before .before .before .before .before .before .loop .inv .1 .1 .1 .1 t known sound) .placing;
-    ends =
-        stops-here t
-        ((c .before .before .before .before .before .before .before .before .before .before .before .before .before .before .before .args .children) .now)
-        ((c .before .before .before .before .before .before .before .before .before .before .before .before .before .before .before .args .room) .now)
-        (c .before .before .before .before .before .before .before .loop .placed)
-        (c .before .before .before .before .before .before .before .loop .held)
-        (c .before .before .before .before .before .before .before .loop .i)
-        (c .before .before .before .before .before .before .before .loop .room)
-        (c .before .before .before .before .before .before .before .loop .inv .1 .1 .1 .1 t known sound)
-        (c .before .before .before .before .before .before .next-word .result .start)
-        (c .before .before .before .before .before .before .next-word .result .end)
-        (c .before .before .before .before .before .before .next-word .ensures) (let o =
-        (c .before .before .before .before .before .before .next-word .ensures) .word .from in let l =
-        (c .before .before .before .before .before .before .next-word .ensures) .word .within in omega (
-          arith,
-          o,
-          l,
-          c .before .before .before .before .before .if1 .left,
-        )) (finds-zero t
-        (c .before .before .before .before .before .before .before .loop .held) (take
-        (c .before .before .before .before .before .before .next-word .result .end -
-        c .before .before .before .before .before .before .next-word .result .start) (drop
-        (c .before .before .before .before .before .before .next-word .result .start)
-        ((c .before .before .before .before .before .before .before .before .before .before .before .before .before .before .before .args .children) .now)))
-        (c .before .before .find .result .0) (c .before .before .find .ensures .1 t
-        (c .before .before .before .before .before .before .before .loop .held) (known .named-so) (λ x.
-        c .before .before .before .before .nexts .ensures x ∙ known .nexts
-        (c .before .before .before .before .before .before .before .loop .held) x)) (c .if2 .taken));
-  },
-)
+returns-2 c =
+    let c4 = c .before .before .before .before in
+    let c7 = c4 .before .before .before in
+    let c15 = c7 .before .before .before .before .before .before .before .before in (
+      search needs,
+      λ t known sound. record {
+        placing =
+            (c7 .loop .inv .1 .1 .1 .1 t known sound) .placing;
+        ends =
+            stops-here t ((c15 .args .children) .now) ((c15 .args .room) .now) (c7 .loop .placed) (c7 .loop .held)
+            (c7 .loop .i) (c7 .loop .room) (c7 .loop .inv .1 .1 .1 .1 t known sound)
+            (c4 .before .before .next-word .result .start) (c4 .before .before .next-word .result .end)
+            (c4 .before .before .next-word .ensures) (let o =
+            (c4 .before .before .next-word .ensures) .word .from in let l =
+            (c4 .before .before .next-word .ensures) .word .within in omega (
+              arith,
+              o,
+              l,
+              c4 .before .if1 .left,
+            )) (finds-zero t (c7 .loop .held) (take (c4 .before .before .next-word .result .end -
+            c4 .before .before .next-word .result .start) (drop (c4 .before .before .next-word .result .start)
+            ((c15 .args .children) .now))) (c .before .before .find .result .0) (c .before .before .find .ensures .1 t
+            (c7 .loop .held) (known .named-so) (λ x.
+            c4 .nexts .ensures x ∙ known .nexts (c7 .loop .held) x)) (c .if2 .taken));
+      },
+    )
 
 lay-requires : tie.Need-lay-requires Inv-loop μ-loop
 lay-requires c κs =
-    let c16 = c .before .before .before .before .before .before .before .before .before .before .before .before .before .before .before .before in
+    let c8 = c .before .before .before .before .before .before .before .before in
+    let c16 = c8 .before .before .before .before .before .before .before .before in
     omega (arith, c .before .before .before .find .ensures .0, c16 .pre .0 .few)
 
 add-placed : tie.Need-add-placed Inv-loop μ-loop
@@ -191,9 +183,9 @@ place-children-spec =
     same-length
     returns
     nexts-requires
-    sub-find
-    part-find-start
-    part-find-end
+    sub-name
+    part-name-start
+    part-name-end
     find-requires
     same-length-2
     returns-2

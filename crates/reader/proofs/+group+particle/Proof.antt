@@ -3,7 +3,7 @@ use mathlib.Core.Path.{_≡_, refl, sym, subst, _∙_}
 use Prim.Native.Nat.{suc, _+_, _-_, _*_}
 use native.Mathlib.Omega.{arith}
 use lib.ListN.{length}
-use Rattle.reader.specs.Inner.Phrases.{Wants, Fails}
+use Rattle.phrases.specs.Inner.Phrases.{Wants, Fails}
 use Rattle.reader.proofs.Grouping.{particle-end, particle-other, particle-name, particle-group, Going, too-deep}
 use Rattle.reader.proofs.Grouping.{no-node, begins, no-member, few-members, member-stopped, member-joined}
 use Rattle.reader.proofs.Grouping.{member-closed, phrase-is, follows-is}
@@ -17,11 +17,11 @@ use Rattle.reader.proofs.particle.Reads as particle
 use Rattle.reader.proofs.particle.Kinds as particle-kinds
 use Rattle.reader.proofs.+group+particle.Lts-particle as particle-lts
 use Rattle.names.proofs.starts_name.Reads as starts-name-reads
-use Rattle.reader.proofs.behind_member.Reads as behind-member-reads
-use Rattle.reader.proofs.close.Reads as close-reads
-use Rattle.reader.proofs.named.Reads as named-reads
-use Rattle.reader.proofs.skip.Reads as skip-reads
-use Rattle.reader.proofs.wrong.Reads as wrong-reads
+use Rattle.phrases.proofs.behind_member.Reads as behind-member-reads
+use Rattle.phrases.proofs.close.Reads as close-reads
+use Rattle.phrases.proofs.named.Reads as named-reads
+use Rattle.signs.proofs.skip.Reads as skip-reads
+use Rattle.signs.proofs.wrong.Reads as wrong-reads
 use Rattle.reader.proofs.+group+particle.{statement}
 use Rattle.reader.proofs.+group+particle.Tie.{close}
 
@@ -80,7 +80,7 @@ group-returns-2 : (t : ℕ) → group-lts.Need-returns-2 (
 group-returns-2 t c = let s = c .before .before .before .before .before .before in no-node _ _ _ _ (s .pre .1 .0 .0)
     (s .pre .1 .1 .0) (c .before .if1 .left) (c .if2 .taken)
 
-group-add-t25 : (t : ℕ) → group-lts.Need-add-t25 (
+group-add-t26 : (t : ℕ) → group-lts.Need-add-t26 (
   particle-below t,
   particle.Post,
   behind-member-reads.Asked,
@@ -88,7 +88,7 @@ group-add-t25 : (t : ℕ) → group-lts.Need-add-t25 (
   close-reads.Asked,
   close-reads.Learnt,
 ) (group-at t) group.Post group-Inv-loop group-μ-loop
-group-add-t25 t c = omega (arith, c .before .before .before .before .before .before .pre .1 .1 .1 .nodes)
+group-add-t26 t c = omega (arith, c .before .before .before .before .before .before .pre .1 .1 .1 .nodes)
 
 group-add-i : (t : ℕ) → group-lts.Need-add-i (
   particle-below t,
@@ -164,9 +164,12 @@ group-same-length : (t : ℕ) → group-lts.Need-same-length (
   close-reads.Asked,
   close-reads.Learnt,
 ) (group-at t) group.Post group-Inv-loop group-μ-loop
-group-same-length t c = c .before .before .before .before .before .before .before .before .before .particle .kept .1 .0
+group-same-length t c =
+    let c9 = c .before .before .before .before .before .before .before .before .before in
+    let c13 = c9 .before .before .before .before in
+    c9 .particle .kept .1 .0
     ∙
-    c .before .before .before .before .before .before .before .before .before .before .before .before .before .loop .inv .1
+    c13 .loop .inv .1
 
 group-same-length-2 : (t : ℕ) → group-lts.Need-same-length-2 (
   particle-below t,
@@ -177,8 +180,10 @@ group-same-length-2 : (t : ℕ) → group-lts.Need-same-length-2 (
   close-reads.Learnt,
 ) (group-at t) group.Post group-Inv-loop group-μ-loop
 group-same-length-2 t c =
-    c .before .before .before .before .before .before .before .before .before .particle .kept .1 .1 .0 ∙
-    c .before .before .before .before .before .before .before .before .before .before .before .before .before .loop .inv .2
+    let c9 = c .before .before .before .before .before .before .before .before .before in
+    let c13 = c9 .before .before .before .before in
+    c9 .particle .kept .1 .1 .0 ∙
+    c13 .loop .inv .2
 
 group-same-length-3 : (t : ℕ) → group-lts.Need-same-length-3 (
   particle-below t,
@@ -189,8 +194,10 @@ group-same-length-3 : (t : ℕ) → group-lts.Need-same-length-3 (
   close-reads.Learnt,
 ) (group-at t) group.Post group-Inv-loop group-μ-loop
 group-same-length-3 t c =
-    c .before .before .before .before .before .before .before .before .before .particle .kept .1 .1 .1 .0 ∙
-    c .before .before .before .before .before .before .before .before .before .before .before .before .before .loop .inv .3
+    let c9 = c .before .before .before .before .before .before .before .before .before in
+    let c13 = c9 .before .before .before .before in
+    c9 .particle .kept .1 .1 .1 .0 ∙
+    c13 .loop .inv .3
 
 group-returns-3 : (t : ℕ) → group-lts.Need-returns-3 (
   particle-below t,
@@ -201,12 +208,15 @@ group-returns-3 : (t : ℕ) → group-lts.Need-returns-3 (
   close-reads.Learnt,
 ) (group-at t) group.Post group-Inv-loop group-μ-loop
 group-returns-3 t c =
+    let c9 = c .before .before .before .before .before .before .before .before .before in
+    let c13 = c9 .before .before .before .before in
+    let c20 = c13 .before .before .before .before .before .before .before in
     let s =
-    c .before .before .before .before .before .before .before .before .before .before .before .before .before .before .before .before .before .before .before .before
+    c20
     in
     let l =
-    c .before .before .before .before .before .before .before .before .before .before .before .before .before .loop in
-    let q = c .before .before .before .before .before .before .before .before .before .particle in
+    c13 .loop in
+    let q = c9 .particle in
     let p = phrase-is Wants _ (l .i) (s .args .deep + 1) (l .so-far) (l .words) (l .starts) (l .lengths)
     (q .last .1 .0) (q .last .1 .1 .0) (q .last .1 .1 .1 .0) (q .ensures) (c .before .p .given .1) in
     no-member (l .inv .0) p
@@ -230,12 +240,15 @@ group-add-members : (t : ℕ) → group-lts.Need-add-members (
   close-reads.Learnt,
 ) (group-at t) group.Post group-Inv-loop group-μ-loop
 group-add-members t c =
+    let c9 = c .before .before .before .before .before .before .before .before .before in
+    let c13 = c9 .before .before .before .before in
+    let c20 = c13 .before .before .before .before .before .before .before in
     let s =
-    c .before .before .before .before .before .before .before .before .before .before .before .before .before .before .before .before .before .before .before .before
+    c20
     in
     let l =
-    c .before .before .before .before .before .before .before .before .before .before .before .before .before .loop in
-    let q = c .before .before .before .before .before .before .before .before .before .particle in
+    c13 .loop in
+    let q = c9 .particle in
     let p = phrase-is Wants _ (l .i) (s .args .deep + 1) (l .so-far) (l .words) (l .starts) (l .lengths)
     (q .last .1 .0) (q .last .1 .1 .0) (q .last .1 .1 .1 .0) (q .ensures) (c .before .p2 .given .1) in
     let f = few-members (l .inv .0) p in
@@ -250,12 +263,15 @@ group-behind-member-requires : (t : ℕ) → group-lts.Need-behind-member-requir
   close-reads.Learnt,
 ) (group-at t) group.Post group-Inv-loop group-μ-loop
 group-behind-member-requires t c κs =
+    let c9 = c .before .before .before .before .before .before .before .before .before in
+    let c13 = c9 .before .before .before .before in
+    let c20 = c13 .before .before .before .before .before .before .before in
     let s =
-    c .before .before .before .before .before .before .before .before .before .before .before .before .before .before .before .before .before .before .before .before
+    c20
     in
     let l =
-    c .before .before .before .before .before .before .before .before .before .before .before .before .before .loop in
-    let q = c .before .before .before .before .before .before .before .before .before .particle in
+    c13 .loop in
+    let q = c9 .particle in
     let p = phrase-is Wants _ (l .i) (s .args .deep + 1) (l .so-far) (l .words) (l .starts) (l .lengths)
     (q .last .1 .0) (q .last .1 .1 .0) (q .last .1 .1 .1 .0) (q .ensures) (c .before .p2 .given .1) in
     p .1 .to
@@ -279,9 +295,12 @@ group-same-length-4 : (t : ℕ) → group-lts.Need-same-length-4 (
   close-reads.Learnt,
 ) (group-at t) group.Post group-Inv-loop group-μ-loop
 group-same-length-4 t c =
-    c .before .before .before .before .before .before .before .before .before .before .before .before .before .particle .kept .1 .0
+    let c6 = c .before .before .before .before .before .before in
+    let c13 = c6 .before .before .before .before .before .before .before in
+    let c17 = c13 .before .before .before .before in
+    c13 .particle .kept .1 .0
     ∙
-    c .before .before .before .before .before .before .before .before .before .before .before .before .before .before .before .before .before .loop .inv .1
+    c17 .loop .inv .1
 
 group-same-length-5 : (t : ℕ) → group-lts.Need-same-length-5 (
   particle-below t,
@@ -292,9 +311,12 @@ group-same-length-5 : (t : ℕ) → group-lts.Need-same-length-5 (
   close-reads.Learnt,
 ) (group-at t) group.Post group-Inv-loop group-μ-loop
 group-same-length-5 t c =
-    c .before .before .before .before .before .before .before .before .before .before .before .before .before .particle .kept .1 .1 .0
+    let c6 = c .before .before .before .before .before .before in
+    let c13 = c6 .before .before .before .before .before .before .before in
+    let c17 = c13 .before .before .before .before in
+    c13 .particle .kept .1 .1 .0
     ∙
-    c .before .before .before .before .before .before .before .before .before .before .before .before .before .before .before .before .before .loop .inv .2
+    c17 .loop .inv .2
 
 group-same-length-6 : (t : ℕ) → group-lts.Need-same-length-6 (
   particle-below t,
@@ -305,9 +327,12 @@ group-same-length-6 : (t : ℕ) → group-lts.Need-same-length-6 (
   close-reads.Learnt,
 ) (group-at t) group.Post group-Inv-loop group-μ-loop
 group-same-length-6 t c =
-    c .before .before .before .before .before .before .before .before .before .before .before .before .before .particle .kept .1 .1 .1 .0
+    let c6 = c .before .before .before .before .before .before in
+    let c13 = c6 .before .before .before .before .before .before .before in
+    let c17 = c13 .before .before .before .before in
+    c13 .particle .kept .1 .1 .1 .0
     ∙
-    c .before .before .before .before .before .before .before .before .before .before .before .before .before .before .before .before .before .loop .inv .3
+    c17 .loop .inv .3
 
 group-returns-4 : (t : ℕ) → group-lts.Need-returns-4 (
   particle-below t,
@@ -318,20 +343,23 @@ group-returns-4 : (t : ℕ) → group-lts.Need-returns-4 (
   close-reads.Learnt,
 ) (group-at t) group.Post group-Inv-loop group-μ-loop
 group-returns-4 t c =
+    let c3 = c .before .before .before in
+    let c13 = c3 .before .before .before .before .before .before .before .before .before .before in
+    let c17 = c13 .before .before .before .before in
+    let c24 = c17 .before .before .before .before .before .before .before in
     let s =
-    c .before .before .before .before .before .before .before .before .before .before .before .before .before .before .before .before .before .before .before .before .before .before .before .before
+    c24
     in
     let l =
-    c .before .before .before .before .before .before .before .before .before .before .before .before .before .before .before .before .before .loop
+    c17 .loop
     in
     let q =
-    c .before .before .before .before .before .before .before .before .before .before .before .before .before .particle
+    c13 .particle
     in
     let p = phrase-is Wants _ (l .i) (s .args .deep + 1) (l .so-far) (l .words) (l .starts) (l .lengths)
-    (q .last .1 .0) (q .last .1 .1 .0) (q .last .1 .1 .1 .0) (q .ensures)
-    (c .before .before .before .before .before .p2 .given .1) in
+    (q .last .1 .0) (q .last .1 .1 .0) (q .last .1 .1 .1 .0) (q .ensures) (c3 .before .before .p2 .given .1) in
     member-stopped (l .inv .0) p (follows-is (s .args .text .now) _ (l .sep)
-    (c .before .before .before .behind-member .ensures) (c .before .x .given .1))
+    (c3 .behind-member .ensures) (c .before .x .given .1))
 
 group-enum-known-x-2 : (t : ℕ) → group-lts.Need-enum-known-x-2 (
   particle-below t,
@@ -352,24 +380,27 @@ group-close-requires : (t : ℕ) → group-lts.Need-close-requires (
   close-reads.Learnt,
 ) (group-at t) group.Post group-Inv-loop group-μ-loop
 group-close-requires t c κs =
+    let c4 = c .before .before .before .before in
+    let c14 = c4 .before .before .before .before .before .before .before .before .before .before in
+    let c18 = c14 .before .before .before .before in
+    let c25 = c18 .before .before .before .before .before .before .before in
     let s =
-    c .before .before .before .before .before .before .before .before .before .before .before .before .before .before .before .before .before .before .before .before .before .before .before .before .before
+    c25
     in
     let l =
-    c .before .before .before .before .before .before .before .before .before .before .before .before .before .before .before .before .before .before .loop
+    c18 .loop
     in
     let q =
-    c .before .before .before .before .before .before .before .before .before .before .before .before .before .before .particle
+    c14 .particle
     in
     let p = phrase-is Wants _ (l .i) (s .args .deep + 1) (l .so-far) (l .words) (l .starts) (l .lengths)
-    (q .last .1 .0) (q .last .1 .1 .0) (q .last .1 .1 .1 .0) (q .ensures)
-    (c .before .before .before .before .before .before .p2 .given .1) in
-    let x = follows-is (s .args .text .now) _ (l .sep) (c .before .before .before .before .behind-member .ensures)
+    (q .last .1 .0) (q .last .1 .1 .0) (q .last .1 .1 .1 .0) (q .ensures) (c4 .before .before .p2 .given .1) in
+    let x = follows-is (s .args .text .now) _ (l .sep) (c4 .behind-member .ensures)
     (c .before .before .x2 .given .1) in
     let f = few-members (l .inv .0) p in
     let n = s .pre .1 .1 .1 .nodes in
     let m =
-    c .before .before .before .before .before .before .before .before .before .before .before .before .before .before .before .before .before .before .before .if2 .left
+    c18 .before .if2 .left
     in
     let w = p .2 .ready .words in
     (x .1, (omega arith, omega arith))
@@ -382,11 +413,15 @@ group-same-length-7 : (t : ℕ) → group-lts.Need-same-length-7 (
   close-reads.Asked,
   close-reads.Learnt,
 ) (group-at t) group.Post group-Inv-loop group-μ-loop
-group-same-length-7 t c = c .before .before .close .kept .1 .0
+group-same-length-7 t c =
+    let c8 = c .before .before .before .before .before .before .before .before in
+    let c17 = c8 .before .before .before .before .before .before .before .before .before in
+    let c21 = c17 .before .before .before .before in
+    c .before .before .close .kept .1 .0
     ∙
-    c .before .before .before .before .before .before .before .before .before .before .before .before .before .before .before .before .before .particle .kept .1 .0
+    c17 .particle .kept .1 .0
     ∙
-    c .before .before .before .before .before .before .before .before .before .before .before .before .before .before .before .before .before .before .before .before .before .loop .inv .1
+    c21 .loop .inv .1
 
 group-same-length-8 : (t : ℕ) → group-lts.Need-same-length-8 (
   particle-below t,
@@ -397,9 +432,12 @@ group-same-length-8 : (t : ℕ) → group-lts.Need-same-length-8 (
   close-reads.Learnt,
 ) (group-at t) group.Post group-Inv-loop group-μ-loop
 group-same-length-8 t c =
-    c .before .before .before .before .before .before .before .before .before .before .before .before .before .before .before .before .before .particle .kept .1 .1 .0
+    let c8 = c .before .before .before .before .before .before .before .before in
+    let c17 = c8 .before .before .before .before .before .before .before .before .before in
+    let c21 = c17 .before .before .before .before in
+    c17 .particle .kept .1 .1 .0
     ∙
-    c .before .before .before .before .before .before .before .before .before .before .before .before .before .before .before .before .before .before .before .before .before .loop .inv .2
+    c21 .loop .inv .2
 
 group-same-length-9 : (t : ℕ) → group-lts.Need-same-length-9 (
   particle-below t,
@@ -410,9 +448,12 @@ group-same-length-9 : (t : ℕ) → group-lts.Need-same-length-9 (
   close-reads.Learnt,
 ) (group-at t) group.Post group-Inv-loop group-μ-loop
 group-same-length-9 t c =
-    c .before .before .before .before .before .before .before .before .before .before .before .before .before .before .before .before .before .particle .kept .1 .1 .1 .0
+    let c8 = c .before .before .before .before .before .before .before .before in
+    let c17 = c8 .before .before .before .before .before .before .before .before .before in
+    let c21 = c17 .before .before .before .before in
+    c17 .particle .kept .1 .1 .1 .0
     ∙
-    c .before .before .before .before .before .before .before .before .before .before .before .before .before .before .before .before .before .before .before .before .before .loop .inv .3
+    c21 .loop .inv .3
 
 group-returns-5 : (t : ℕ) → group-lts.Need-returns-5 (
   particle-below t,
@@ -423,21 +464,24 @@ group-returns-5 : (t : ℕ) → group-lts.Need-returns-5 (
   close-reads.Learnt,
 ) (group-at t) group.Post group-Inv-loop group-μ-loop
 group-returns-5 t c =
+    let c5 = c .before .before .before .before .before in
+    let c9 = c5 .before .before .before .before in
+    let c17 = c9 .before .before .before .before .before .before .before .before in
+    let c21 = c17 .before .before .before .before in
+    let c28 = c21 .before .before .before .before .before .before .before in
     let s =
-    c .before .before .before .before .before .before .before .before .before .before .before .before .before .before .before .before .before .before .before .before .before .before .before .before .before .before .before .before
+    c28
     in
     let l =
-    c .before .before .before .before .before .before .before .before .before .before .before .before .before .before .before .before .before .before .before .before .before .loop
+    c21 .loop
     in
     let q =
-    c .before .before .before .before .before .before .before .before .before .before .before .before .before .before .before .before .before .particle
+    c17 .particle
     in
     let p = phrase-is Wants _ (l .i) (s .args .deep + 1) (l .so-far) (l .words) (l .starts) (l .lengths)
-    (q .last .1 .0) (q .last .1 .1 .0) (q .last .1 .1 .1 .0) (q .ensures)
-    (c .before .before .before .before .before .before .before .before .before .p2 .given .1) in
+    (q .last .1 .0) (q .last .1 .1 .0) (q .last .1 .1 .1 .0) (q .ensures) (c9 .p2 .given .1) in
     member-closed (l .inv .0) p (follows-is (s .args .text .now) _ (l .sep)
-    (c .before .before .before .before .before .before .before .behind-member .ensures)
-    (c .before .before .before .before .before .x2 .given .1)) (c .before .before .close .ensures)
+    (c5 .before .before .behind-member .ensures) (c5 .x2 .given .1)) (c .before .before .close .ensures)
 
 group-enum-known-x-3 : (t : ℕ) → group-lts.Need-enum-known-x-3 (
   particle-below t,
@@ -458,20 +502,22 @@ group-loop-less : (t : ℕ) → group-lts.Need-loop-less (
   close-reads.Learnt,
 ) (group-at t) group.Post group-Inv-loop group-μ-loop
 group-loop-less t c =
+    let c3 = c .before .before .before in
+    let c13 = c3 .before .before .before .before .before .before .before .before .before .before in
+    let c17 = c13 .before .before .before .before in
+    let c24 = c17 .before .before .before .before .before .before .before in
     let s =
-    c .before .before .before .before .before .before .before .before .before .before .before .before .before .before .before .before .before .before .before .before .before .before .before .before
+    c24
     in
     let l =
-    c .before .before .before .before .before .before .before .before .before .before .before .before .before .before .before .before .before .loop
+    c17 .loop
     in
     let q =
-    c .before .before .before .before .before .before .before .before .before .before .before .before .before .particle
+    c13 .particle
     in
     let p = phrase-is Wants _ (l .i) (s .args .deep + 1) (l .so-far) (l .words) (l .starts) (l .lengths)
-    (q .last .1 .0) (q .last .1 .1 .0) (q .last .1 .1 .1 .0) (q .ensures)
-    (c .before .before .before .before .before .p2 .given .1) in
-    let x = follows-is (s .args .text .now) _ (l .sep) (c .before .before .before .behind-member .ensures)
-    (c .before .x3 .given .1) in
+    (q .last .1 .0) (q .last .1 .1 .0) (q .last .1 .1 .1 .0) (q .ensures) (c3 .before .before .p2 .given .1) in
+    let x = follows-is (s .args .text .now) _ (l .sep) (c3 .behind-member .ensures) (c .before .x3 .given .1) in
     let f = p .1 .from in
     let y = x .0 in
     let z = x .1 in
@@ -486,20 +532,23 @@ group-loop-again : (t : ℕ) → group-lts.Need-loop-again (
   close-reads.Learnt,
 ) (group-at t) group.Post group-Inv-loop group-μ-loop
 group-loop-again t c =
+    let c3 = c .before .before .before in
+    let c13 = c3 .before .before .before .before .before .before .before .before .before .before in
+    let c17 = c13 .before .before .before .before in
+    let c24 = c17 .before .before .before .before .before .before .before in
     let s =
-    c .before .before .before .before .before .before .before .before .before .before .before .before .before .before .before .before .before .before .before .before .before .before .before .before
+    c24
     in
     let l =
-    c .before .before .before .before .before .before .before .before .before .before .before .before .before .before .before .before .before .loop
+    c17 .loop
     in
     let q =
-    c .before .before .before .before .before .before .before .before .before .before .before .before .before .particle
+    c13 .particle
     in
     let p = phrase-is Wants _ (l .i) (s .args .deep + 1) (l .so-far) (l .words) (l .starts) (l .lengths)
-    (q .last .1 .0) (q .last .1 .1 .0) (q .last .1 .1 .1 .0) (q .ensures)
-    (c .before .before .before .before .before .p2 .given .1) in (
+    (q .last .1 .0) (q .last .1 .1 .0) (q .last .1 .1 .1 .0) (q .ensures) (c3 .before .before .p2 .given .1) in (
       member-joined (l .inv .0) p (follows-is (s .args .text .now) _ (l .sep)
-          (c .before .before .before .behind-member .ensures) (c .before .x3 .given .1)),
+          (c3 .behind-member .ensures) (c .before .x3 .given .1)),
       q .kept .1 .0
           ∙ l .inv .1,
       q .kept .1 .1 .0 ∙ l .inv .2,
@@ -638,12 +687,14 @@ particle-returns-2 : (t : ℕ) → particle-lts.Need-returns-2 (
   wrong-reads.Learnt,
 ) (particle-at t) particle.Post
 particle-returns-2 t c =
+    let c6 = c .before .before .before .before .before .before in
+    let c14 = c6 .before .before .before .before .before .before .before .before in
+    let c19 = c14 .before .before .before .before .before in
     let s =
-    c .before .before .before .before .before .before .before .before .before .before .before .before .before .before .before .before .before .before .before
+    c19
     in
-    let r = c .before .before .before .before .before .before .named in
-    particle-name _ _ _ _ _
-    (c .before .before .before .before .before .before .before .before .before .before .before .before .before .before .skip .ensures .0)
+    let r = c6 .named in
+    particle-name _ _ _ _ _ (c14 .skip .ensures .0)
     _ _ _ (r .result) _ _ _ (r .ensures (s .args .deep))
 
 particle-group-requires : (t : ℕ) → particle-lts.Need-group-requires (
@@ -659,9 +710,11 @@ particle-group-requires : (t : ℕ) → particle-lts.Need-group-requires (
   wrong-reads.Learnt,
 ) (particle-at t) particle.Post
 particle-group-requires t c κs =
-    let s = c .before .before .before .before .before .before .before .before .before .before .before .before .before in
+    let c3 = c .before .before .before in
+    let c13 = c3 .before .before .before .before .before .before .before .before .before .before in
+    let s = c13 in
     let m = s .pre .0 in
-    (omega arith, ((omega arith, s .pre .1 .0 .1), (c .before .before .before .if3 .taken, s .pre .1 .1)))
+    (omega arith, ((omega arith, s .pre .1 .0 .1), (c3 .if3 .taken, s .pre .1 .1)))
 
 particle-same-length-4 : (t : ℕ) → particle-lts.Need-same-length-4 (
   skip-reads.Asked,
@@ -718,12 +771,14 @@ particle-returns-3 : (t : ℕ) → particle-lts.Need-returns-3 (
   wrong-reads.Learnt,
 ) (particle-at t) particle.Post
 particle-returns-3 t c =
+    let c6 = c .before .before .before .before .before .before in
+    let c15 = c6 .before .before .before .before .before .before .before .before .before in
+    let c20 = c15 .before .before .before .before .before in
     let s =
-    c .before .before .before .before .before .before .before .before .before .before .before .before .before .before .before .before .before .before .before .before
+    c20
     in
-    let r = c .before .before .before .before .before .before .group in
-    particle-group _ _ _ (s .args .deep) (s .args .counts)
-    (c .before .before .before .before .before .before .before .before .before .before .before .before .before .before .before .skip .ensures .0)
+    let r = c6 .group in
+    particle-group _ _ _ (s .args .deep) (s .args .counts) (c15 .skip .ensures .0)
     _ _ _ (r .result) _ _ _ (r .ensures)
 
 particle-wrong-requires : (t : ℕ) → particle-lts.Need-wrong-requires (
@@ -773,7 +828,7 @@ pub +group+particle-spec : {M : Type 1} → statement M
     group-μ-loop
     (group-returns t)
     (group-returns-2 t)
-    (group-add-t25 t)
+    (group-add-t26 t)
     (group-add-i t)
     (group-loop-holds t)
     (group-add-particle t)

@@ -2,7 +2,7 @@
 use mathlib.Core.Path.{refl, sym, subst}
 use native.Mathlib.Omega.{arith}
 use Rattle.grammar.specs.Faults.{Refused}
-use Rattle.reader.specs.Inner.Phrases.{Opens}
+use Rattle.phrases.specs.Inner.Phrases.{Opens}
 use Rattle.reader.proofs.Grouping.{phrase-is}
 use Rattle.reader.proofs.Whole.{none, filled, nothing-there, no-bracket, no-group, more-behind, whole-text}
 use Rattle.reader.proofs.fill.Statement.{statement}

@@ -42,15 +42,15 @@ slice-aggregate-pack-3 c = search needs
 
 pack-requires : tie.Need-pack-requires
 pack-requires c κs =
-    let a = c .before .before .before .before .before .before .before .before .before .before in
+    let c5 = c .before .before .before .before .before in
+    let c8 = c5 .before .before .before in
+    let a = c8 .before .before in
     let f = a .fill in
     let b = a .before .before .before .before in
     let t = b .before .before .before .before .args .text .now in
     let ok : Admitted t _ = record { short = b .before .if1 .left; wide = b .if2 .left } in
-    draft-ready t (f .last .1 .0) (f .last .1 .1 .0) (f .last .1 .1 .1 .0) ok (f .ensures)
-    (c .before .before .before .before .before .draft2 .given .1)
-    (c .before .before .before .before .before .before .before .before .starts2 .given)
-    (c .before .before .before .before .before .before .before .lengths2 .given)
+    draft-ready t (f .last .1 .0) (f .last .1 .1 .0) (f .last .1 .1 .1 .0) ok (f .ensures) (c5 .draft2 .given .1)
+    (c8 .starts2 .given) (c5 .before .before .lengths2 .given)
 
 returns-3 : tie.Need-returns-3
 returns-3 c =
@@ -69,15 +69,16 @@ same-length c = search needs
 
 returns-4 : tie.Need-returns-4
 returns-4 c =
-    let a = c .before .before .before .before .before .before .before .before .before .before .before .before .before in
+    let c8 = c .before .before .before .before .before .before .before .before in
+    let c13 = c8 .before .before .before .before .before in
+    let a = c13 in
     let f = a .fill in
     let b = a .before .before .before .before in
     let t = b .before .before .before .before .args .text .now in
     let ok : Admitted t _ = record { short = b .before .if1 .left; wide = b .if2 .left } in
     let p = c .before .before .pack in
     draft-read t (f .last .1 .0) (f .last .1 .1 .0) (f .last .1 .1 .1 .0) ok (f .ensures)
-    (c .before .before .before .before .before .before .before .before .draft2 .given .1) (p .result)
-    (p .last .1 .1 .1 .1 .1 .0) (p .ensures)
+    (c8 .draft2 .given .1) (p .result) (p .last .1 .1 .1 .1 .1 .0) (p .ensures)
 
 pub read-spec : {M : Type 1} → statement M
 read-spec =

@@ -44,7 +44,9 @@ shr-result c = search needs
 
 returns-5 : tie.Need-returns-5
 unfolding pair marked
-returns-5 c = let a = c .before .before .before .before .before .before .before .before .before .before .before .args in
+returns-5 c =
+    let c11 = c .before .before .before .before .before .before .before .before .before .before .before in
+    let a = c11 .args in
     rw (slot-yes (a .p .0) (omega arith, omega arith), slot-yes (a .y .0) (omega arith, omega arith))
 
 pub in-row-spec : {M : Type 1} → statement M

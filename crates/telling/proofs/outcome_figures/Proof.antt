@@ -8,22 +8,22 @@ use Rattle.telling.proofs.outcome_figures.Tie as tie
 enum-known-r : tie.Need-enum-known-r
 enum-known-r c = search needs
 
-four-requires : tie.Need-four-requires
-four-requires c κs = search needs
+new-requires : tie.Need-new-requires
+new-requires c κs = search needs
 
 enum-known-r-2 : tie.Need-enum-known-r-2
 enum-known-r-2 c = search needs
 
-refusal-figures-requires : tie.Need-refusal-figures-requires
-refusal-figures-requires c κs = search needs
+figures-requires : tie.Need-figures-requires
+figures-requires c κs = search needs
 
 returns : tie.Need-returns
-returns c = c .four .ensures ∙ sym (ap outcomeFigures (c .before .before .r .given .1))
+returns c = c .new .ensures ∙ sym (ap outcomeFigures (c .before .before .r .given .1))
 
 returns-2 : tie.Need-returns-2
-returns-2 c = c .refusal-figures .ensures ∙ sym (ap outcomeFigures (c .before .before .r2 .given .1))
+returns-2 c = c .figures .ensures ∙ sym (ap outcomeFigures (c .before .before .r2 .given .1))
 
 pub outcome-figures-spec : {M : Type 1} → statement M
 outcome-figures-spec =
     tie.close
-    (tie.spec enum-known-r four-requires enum-known-r-2 refusal-figures-requires returns returns-2)
+    (tie.spec enum-known-r new-requires enum-known-r-2 figures-requires returns returns-2)

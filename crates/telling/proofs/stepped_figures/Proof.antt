@@ -1,6 +1,6 @@
 -- `telling::stepped_figures` meets its contract. Assumes nothing.
 use mathlib.Core.Path.{sym, ap, _∙_}
-use Rattle.matching.specs.Steps.{steppedFigures}
+use Rattle.stepping.specs.Steps.{steppedFigures}
 use borrow.Author.Needs.{needs}
 use Rattle.telling.proofs.stepped_figures.Statement.{statement}
 use Rattle.telling.proofs.stepped_figures.Tie as tie
@@ -8,40 +8,40 @@ use Rattle.telling.proofs.stepped_figures.Tie as tie
 enum-known-r : tie.Need-enum-known-r
 enum-known-r c = search needs
 
-four-requires : tie.Need-four-requires
-four-requires c κs = search needs
+new-requires : tie.Need-new-requires
+new-requires c κs = search needs
 
 enum-told : tie.Need-enum-told
 enum-told c = search needs
 
-four-requires-2 : tie.Need-four-requires-2
-four-requires-2 c κs = search needs
+new-requires-2 : tie.Need-new-requires-2
+new-requires-2 c κs = search needs
 
 enum-known-r-2 : tie.Need-enum-known-r-2
 enum-known-r-2 c = search needs
 
-refusal-figures-requires : tie.Need-refusal-figures-requires
-refusal-figures-requires c κs = search needs
+figures-requires : tie.Need-figures-requires
+figures-requires c κs = search needs
 
 returns : tie.Need-returns
-returns c = c .four .ensures ∙ sym (ap steppedFigures (c .before .before .r .given .1))
+returns c = c .new .ensures ∙ sym (ap steppedFigures (c .before .before .r .given .1))
 
 returns-2 : tie.Need-returns-2
-returns-2 c = c .four2 .ensures ∙ sym (ap steppedFigures (c .before .enum-told .given .1))
+returns-2 c = c .new2 .ensures ∙ sym (ap steppedFigures (c .before .enum-told .given .1))
 
 returns-3 : tie.Need-returns-3
-returns-3 c = c .refusal-figures .ensures ∙ sym (ap steppedFigures (c .before .before .r2 .given .1))
+returns-3 c = c .figures .ensures ∙ sym (ap steppedFigures (c .before .before .r2 .given .1))
 
 pub stepped-figures-spec : {M : Type 1} → statement M
 stepped-figures-spec =
     tie.close
     (tie.spec
     enum-known-r
-    four-requires
+    new-requires
     enum-told
-    four-requires-2
+    new-requires-2
     enum-known-r-2
-    refusal-figures-requires
+    figures-requires
     returns
     returns-2
     returns-3)

@@ -82,10 +82,11 @@ loop-less c = search needs
 
 loop-again : tie.Need-loop-again Inv-loop μ-loop
 loop-again c =
+    let c5 = c .before .before .before .before .before in
     let b : c .number-at .result .0 < nameCountLimit = omega (
       arith,
       c .number-at .ensures .is,
-      (c .before .before .before .before .before .pre .1 .1 .1 (c .before .before .loop .x - 1) (omega arith)),
+      (c5 .pre .1 .1 .1 (c .before .before .loop .x - 1) (omega arith)),
     ) in (
       search needs,
       (
@@ -94,17 +95,16 @@ loop-again c =
           simp length-set (omega arith),
           (
             link
-                (c .before .before .before .before .before .args .names .now) (c .before .before .loop .later)
-                (c .before .before .loop .seen) (c .before .before .before .before .before .args .slots)
+                (c5 .args .names .now) (c .before .before .loop .later)
+                (c .before .before .loop .seen) (c5 .args .slots)
                 (c .before .before .loop .x) (c .number-at .result .0) (search needs) (search needs)
                 (c .number-at .ensures .is)
                 (c .before .before .loop .inv .1 .1 .1 .0) (c .before .before .loop .inv .1 .1 .1 .1) (search needs) b,
             see
-                (c .before .before .before .before .before .args .names .now) (c .before .before .loop .later)
-                (c .before .before .loop .seen) (c .before .before .before .before .before .args .slots)
+                (c5 .args .names .now) (c .before .before .loop .later)
+                (c .before .before .loop .seen) (c5 .args .slots)
                 (c .before .before .loop .x) (c .number-at .result .0) (search needs) (search needs)
-                (c .number-at .ensures .is)
-                (c .before .before .loop .inv .1 .1 .1 .1) (omega (arith, b)),
+                (c .number-at .ensures .is) (c .before .before .loop .inv .1 .1 .1 .1) (omega (arith, b)),
           ),
         ),
       ),

@@ -75,29 +75,26 @@ loop-less : tie.Need-loop-less Inv-loop2 μ-loop2 Inv-loop μ-loop Inv-search μ
 loop-less c = search needs
 
 loop-again : tie.Need-loop-again Inv-loop2 μ-loop2 Inv-loop μ-loop Inv-search μ-search
-loop-again c = (
-  search needs,
-  (
-    search needs,
-    (
+loop-again c =
+    let c3 = c .before .before .before in
+    let c6 = c3 .before .before .before in
+    let c9 = c6 .before .before .before in (
       search needs,
-      λ k ns l r. x-done k
-          (c .before .before .before .before .before .before .before .before .before .args .start .marks)
-          (c .before .before .before .before .before .before .before .before .before .args .square .now) ns
-          (c .before .before .before .before .before .before .before .before .before .args .later .now)
-          (c .before .before .before .before .before .before .before .before .before .args .slots) r l
-          (c .before .before .before .before .before .before .search .p) (c .before .before .before .before .loop .x)
-          (c .before .wide .result) (c .before .before .before .before .loop .inv .1 .1 .1 k ns l r) (c .if1 .taken)
-          (y-start k (c .before .before .before .before .before .before .before .before .before .args .start .marks)
-          (c .before .before .before .before .before .before .before .before .before .args .square .now) ns
-          (c .before .before .before .before .before .before .before .before .before .args .later .now)
-          (c .before .before .before .before .before .before .before .before .before .args .slots) r l
-          (c .before .before .before .before .before .before .search .p) (c .before .before .before .before .loop .x)
-          (c .before .wide .result) (c .before .before .before .before .loop .inv .0)
-          (c .before .before .before .loop-test .taken) (c .before .wide .ensures)),
-    ),
-  ),
-)
+      (
+        search needs,
+        (
+          search needs,
+          λ k ns l r. x-done k
+              (c9 .args .start .marks) (c9 .args .square .now) ns (c9 .args .later .now) (c9 .args .slots) r l
+              (c6 .search .p) (c3 .before .loop .x)
+              (c .before .wide .result) (c3 .before .loop .inv .1 .1 .1 k ns l r) (c .if1 .taken)
+              (y-start k (c9 .args .start .marks) (c9 .args .square .now) ns (c9 .args .later .now)
+              (c9 .args .slots) r l
+              (c6 .search .p) (c3 .before .loop .x) (c .before .wide .result) (c3 .before .loop .inv .0)
+              (c3 .loop-test .taken) (c .before .wide .ensures .0)),
+        ),
+      ),
+    )
 
 can-follow-requires :
     tie.Need-can-follow-requires Inv-loop2 μ-loop2 Inv-loop μ-loop Inv-search μ-search
@@ -110,48 +107,38 @@ loop-less-2 : tie.Need-loop-less-2 Inv-loop2 μ-loop2 Inv-loop μ-loop Inv-searc
 loop-less-2 c = search needs
 
 loop-again-2 : tie.Need-loop-again-2 Inv-loop2 μ-loop2 Inv-loop μ-loop Inv-search μ-search
-loop-again-2 c = (
-  search needs,
-  (
-    search needs,
-    (
+loop-again-2 c =
+    let c6 = c .before .before .before .before .before .before in
+    let c11 = c6 .before .before .before .before .before in (
       search needs,
-      λ k ns l r. x-skip k
-          (c .before .before .before .before .before .before .before .before .before .before .before .args .start .marks)
-          (c .before .before .before .before .before .before .before .before .before .before .before .args .square .now)
-          ns
-          (c .before .before .before .before .before .before .before .before .before .before .before .args .later .now)
-          (c .before .before .before .before .before .before .before .before .before .before .before .args .slots) r l
-          (c .before .before .before .before .before .before .before .before .search .p)
-          (c .before .before .before .before .before .before .loop .x)
-          (c .before .before .before .before .before .before .loop .inv .1 .1 .1 k ns l r) (sym
-          (c .before .can-follow .ensures) ∙ not-true _ (c .if2 .taken)),
-    ),
-  ),
-)
+      (
+        search needs,
+        (
+          search needs,
+          λ k ns l r. x-skip k
+              (c11 .args .start .marks) (c11 .args .square .now)
+              ns (c11 .args .later .now) (c11 .args .slots) r l (c6 .before .before .search .p) (c6 .loop .x)
+              (c6 .loop .inv .1 .1 .1 k ns l r) (sym (c .before .can-follow .ensures) ∙ not-true _ (c .if2 .taken)),
+        ),
+      ),
+    )
 
 loop2-holds : tie.Need-loop2-holds Inv-loop2 μ-loop2 Inv-loop μ-loop Inv-search μ-search
 loop2-holds c =
-    let e = c .before .before .before .wide .ensures in
-    let g = c .before .before .before .before .before .before .before .before .before .before .before .pre .1 .1 .1
-    (c .before .before .before .before .before .before .loop .x)
-    (c .before .before .before .before .before .before .loop .inv .0)
-    (c .before .before .before .before .before .loop-test .taken) in (
+    let c3 = c .before .before .before in
+    let c6 = c3 .before .before .before in
+    let c11 = c6 .before .before .before .before .before in
+    let e = c3 .wide .ensures .0 in
+    let g = c11 .pre .1 .1 .1 (c6 .loop .x) (c6 .loop .inv .0) (c3 .before .before .loop-test .taken) in (
       omega (arith, e, g .0),
       (
         omega (arith, e, g .1),
         (
           search needs,
           λ k ns l r. y-start k
-              (c .before .before .before .before .before .before .before .before .before .before .before .args .start .marks)
-              (c .before .before .before .before .before .before .before .before .before .before .before .args .square .now) ns
-              (c .before .before .before .before .before .before .before .before .before .before .before .args .later .now)
-              (c .before .before .before .before .before .before .before .before .before .before .before .args .slots) r
-              l
-              (c .before .before .before .before .before .before .before .before .search .p)
-              (c .before .before .before .before .before .before .loop .x) (c .before .before .before .wide .result)
-              (c .before .before .before .before .before .before .loop .inv .0)
-              (c .before .before .before .before .before .loop-test .taken) e,
+              (c11 .args .start .marks) (c11 .args .square .now) ns (c11 .args .later .now) (c11 .args .slots) r
+              l (c6 .before .before .search .p) (c6 .loop .x) (c3 .wide .result) (c6 .loop .inv .0)
+              (c3 .before .before .loop-test .taken) e,
         ),
       ),
     )
@@ -178,39 +165,34 @@ loop2-less c =
     let c4 = c .before .before .before .before in
     let c5 = c4 .before in
     let c17 = c5 .before .before .before .before .before .before .before .before .before .before .before .before in
-    let e = c .wide2 .ensures in
+    let e = c .wide2 .ensures .0 in
     let g = c17 .pre .1 .1 .1 (c5 .loop2 .y) (omega (arith, c5 .loop2 .inv .0)) (c4 .loop2-test .taken) in
     omega (arith, e, g .0, g .1, c4 .loop2-test .taken)
 
 loop2-again : tie.Need-loop2-again Inv-loop2 μ-loop2 Inv-loop μ-loop Inv-search μ-search
 loop2-again c =
-    let e = c .wide2 .ensures in
+    let c3 = c .before .before .before in
+    let c12 = c3 .before .before .before .before .before .before .before .before .before in
+    let c17 = c12 .before .before .before .before .before in
+    let e = c .wide2 .ensures .0 in
     let g =
-    c .before .before .before .before .before .before .before .before .before .before .before .before .before .before .before .before .before .pre .1 .1 .1
-    (c .before .before .before .before .before .loop2 .y) (omega (
+    c17 .pre .1 .1 .1 (c3 .before .before .loop2 .y) (omega (
       arith,
-      c .before .before .before .before .before .loop2 .inv .0,
-    )) (c .before .before .before .before .loop2-test .taken)
+      c3 .before .before .loop2 .inv .0,
+    )) (c3 .before .loop2-test .taken)
     in (
-      omega (arith, e, g .0, c .before .before .before .before .before .loop2 .inv .0),
+      omega (arith, e, g .0, c3 .before .before .loop2 .inv .0),
       (
         omega (arith, e, g .1),
         (
           search needs,
           λ k ns l r. y-step k
-              (c .before .before .before .before .before .before .before .before .before .before .before .before .before .before .before .before .before .args .start .marks)
-              (c .before .before .before .before .before .before .before .before .before .before .before .before .before .before .before .before .before .args .square .now)
-              ns
-              (c .before .before .before .before .before .before .before .before .before .before .before .before .before .before .before .before .before .args .later .now)
-              (c .before .before .before .before .before .before .before .before .before .before .before .before .before .before .before .before .before .args .slots)
-              r l
-              (c .before .before .before .before .before .before .before .before .before .before .before .before .before .before .search .p)
-              (c .before .before .before .before .before .before .before .before .before .before .before .before .loop .x)
-              (c .before .before .before .before .before .loop2 .y) (c .wide2 .result)
-              (c .before .before .before .before .before .loop2 .inv .0)
-              (c .before .before .before .before .loop2-test .taken)
-              (c .before .before .before .before .before .loop2 .inv .1 .1 .1 k ns l r) (sym
-              (c .before .before .before .can-follow2 .ensures) ∙ c .before .before .if3 .left) e,
+              (c17 .args .start .marks) (c17 .args .square .now)
+              ns (c17 .args .later .now) (c17 .args .slots)
+              r l (c12 .before .before .search .p) (c12 .loop .x) (c3 .before .before .loop2 .y) (c .wide2 .result)
+              (c3 .before .before .loop2 .inv .0) (c3 .before .loop2-test .taken)
+              (c3 .before .before .loop2 .inv .1 .1 .1 k ns l r) (sym
+              (c3 .can-follow2 .ensures) ∙ c .before .before .if3 .left) e,
         ),
       ),
     )
@@ -222,25 +204,22 @@ loop-less-3 : tie.Need-loop-less-3 Inv-loop2 μ-loop2 Inv-loop μ-loop Inv-searc
 loop-less-3 c = search needs
 
 loop-again-3 : tie.Need-loop-again-3 Inv-loop2 μ-loop2 Inv-loop μ-loop Inv-search μ-search
-loop-again-3 c = (
-  search needs,
-  (
-    search needs,
-    (
+loop-again-3 c =
+    let c8 = c .before .before .before .before .before .before .before .before in
+    let c13 = c8 .before .before .before .before .before in (
       search needs,
-      λ k ns l r. x-done k
-          (c .before .before .before .before .before .before .before .before .before .before .before .before .before .args .start .marks)
-          (c .before .before .before .before .before .before .before .before .before .before .before .before .before .args .square .now)
-          ns
-          (c .before .before .before .before .before .before .before .before .before .before .before .before .before .args .later .now)
-          (c .before .before .before .before .before .before .before .before .before .before .before .before .before .args .slots)
-          r l (c .before .before .before .before .before .before .before .before .before .before .search .p)
-          (c .before .before .before .before .before .before .before .before .loop .x) (c .before .loop2 .y)
-          (c .before .before .before .before .before .before .before .before .loop .inv .1 .1 .1 k ns l r)
-          (c .loop2-test .left) (c .before .loop2 .inv .1 .1 .1 k ns l r),
-    ),
-  ),
-)
+      (
+        search needs,
+        (
+          search needs,
+          λ k ns l r. x-done k
+              (c13 .args .start .marks) (c13 .args .square .now)
+              ns (c13 .args .later .now) (c13 .args .slots)
+              r l (c8 .before .before .search .p) (c8 .loop .x) (c .before .loop2 .y) (c8 .loop .inv .1 .1 .1 k ns l r)
+              (c .loop2-test .left) (c .before .loop2 .inv .1 .1 .1 k ns l r),
+        ),
+      ),
+    )
 
 add-p : tie.Need-add-p Inv-loop2 μ-loop2 Inv-loop μ-loop Inv-search μ-search
 add-p c = search needs
@@ -249,19 +228,19 @@ search-less : tie.Need-search-less Inv-loop2 μ-loop2 Inv-loop μ-loop Inv-searc
 search-less c = search needs
 
 search-again : tie.Need-search-again Inv-loop2 μ-loop2 Inv-loop μ-loop Inv-search μ-search
-search-again c = (
-  search needs,
-  (
-    search needs,
-    λ k ns l r. p-done k
-        (c .before .before .before .before .before .before .args .start .marks)
-        (c .before .before .before .before .before .before .args .square .now) ns
-        (c .before .before .before .before .before .before .args .later .now)
-        (c .before .before .before .before .before .before .args .slots) r l (c .before .before .before .search .p)
-        (c .before .loop .x) (c .before .before .before .search .inv .1 .1 k ns l r) (c .loop-test .left)
-        (c .before .loop .inv .1 .1 .1 k ns l r),
-  ),
-)
+search-again c =
+    let c3 = c .before .before .before in
+    let c6 = c3 .before .before .before in (
+      search needs,
+      (
+        search needs,
+        λ k ns l r. p-done k
+            (c6 .args .start .marks) (c6 .args .square .now) ns (c6 .args .later .now)
+            (c6 .args .slots) r l (c3 .search .p)
+            (c .before .loop .x) (c3 .search .inv .1 .1 k ns l r) (c .loop-test .left)
+            (c .before .loop .inv .1 .1 .1 k ns l r),
+      ),
+    )
 
 returns : tie.Need-returns Inv-loop2 μ-loop2 Inv-loop μ-loop Inv-search μ-search
 returns c =
@@ -272,21 +251,16 @@ returns c =
 
 returns-2 : tie.Need-returns-2 Inv-loop2 μ-loop2 Inv-loop μ-loop Inv-search μ-search
 returns-2 c =
-    λ k ns l r. first-found k
-    (c .before .before .before .before .before .before .before .before .before .before .before .before .before .before .before .args .start .marks)
-    (c .before .before .before .before .before .before .before .before .before .before .before .before .before .before .before .args .square .now)
-    ns
-    (c .before .before .before .before .before .before .before .before .before .before .before .before .before .before .before .args .later .now)
-    (c .before .before .before .before .before .before .before .before .before .before .before .before .before .before .before .args .slots)
-    r l (c .before .before .before .before .before .before .before .before .before .before .before .before .search .p)
-    (c .before .before .before .before .before .before .before .before .before .before .loop .x)
-    (c .before .before .before .loop2 .y) (c .before .before .before .loop2 .inv .0)
-    (c .before .before .loop2-test .taken)
-    (c .before .before .before .before .before .before .before .before .before .before .before .before .search .inv .1 .1
-    k ns l r) (c .before .before .before .before .before .before .before .before .before .before .loop .inv .1 .1 .1 k
-    ns l r) (c .before .before .before .loop2 .inv .1 .1 .1 k ns l r) (sym
-    (c .before .before .before .before .before .can-follow .ensures) ∙ not-false _
-    (c .before .before .before .before .if2 .left)) (sym (c .before .can-follow2 .ensures) ∙ c .if3 .taken)
+    let c3 = c .before .before .before in
+    let c10 = c3 .before .before .before .before .before .before .before in
+    let c15 = c10 .before .before .before .before .before in
+    λ k ns l r. first-found k (c15 .args .start .marks) (c15 .args .square .now)
+    ns (c15 .args .later .now) (c15 .args .slots)
+    r l (c10 .before .before .search .p) (c10 .loop .x) (c3 .loop2 .y) (c3 .loop2 .inv .0)
+    (c .before .before .loop2-test .taken) (c10 .before .before .search .inv .1 .1
+    k ns l r) (c10 .loop .inv .1 .1 .1 k
+    ns l r) (c3 .loop2 .inv .1 .1 .1 k ns l r) (sym (c3 .before .before .can-follow .ensures) ∙ not-false _
+    (c3 .before .if2 .left)) (sym (c .before .can-follow2 .ensures) ∙ c .if3 .taken)
 
 pub first-clash-spec : {M : Type 1} → statement M
 first-clash-spec =

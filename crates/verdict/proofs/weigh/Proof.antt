@@ -17,9 +17,10 @@ slice-aggregate-fill-later c = search needs
 
 fill-later-requires : tie.Need-fill-later-requires
 fill-later-requires c κs =
-    let e = fits-count (c .before .before .before .before .before .before .before .before .before .pre .1 .1 .0) _
-    (c .before .before .before .before .before .before .before .before .before .pre .1 .1 .1) in
-    let f = c .before .before .before .before .fill-names .ensures in (
+    let c4 = c .before .before .before .before in
+    let c9 = c4 .before .before .before .before .before in
+    let e = fits-count (c9 .pre .1 .1 .0) _ (c9 .pre .1 .1 .1) in
+    let f = c4 .fill-names .ensures in (
       f .room,
       (
         search needs,
@@ -28,11 +29,10 @@ fill-later-requires c κs =
             arith,
             e,
             f .count,
-            c .before .before .before .before .before .before .before .before .before .pre .1 .1 .1 .few,
+            c9 .pre .1 .1 .1 .few,
           ),
           fits-numbers
-              (c .before .before .before .before .before .before .before .before .before .pre .1 .1 .0) _
-              (c .before .before .before .before .before .before .before .before .before .pre .1 .1 .1) _ _ f,
+              (c9 .pre .1 .1 .0) _ (c9 .pre .1 .1 .1) _ _ f,
         ),
       ),
     )
@@ -47,27 +47,27 @@ slice-aggregate-first-clash c = search needs
 
 first-clash-requires : tie.Need-first-clash-requires
 first-clash-requires c κs =
-    let e = fits-count
-    (c .before .before .before .before .before .before .before .before .before .before .before .before .before .before .before .before .before .before .before .pre .1 .1 .0)
-    _
-    (c .before .before .before .before .before .before .before .before .before .before .before .before .before .before .before .before .before .before .before .pre .1 .1 .1)
+    let c9 = c .before .before .before .before .before .before .before .before .before in
+    let c14 = c9 .before .before .before .before .before in
+    let c19 = c14 .before .before .before .before .before in
+    let e = fits-count (c19 .pre .1 .1 .0)
+    _ (c19 .pre .1 .1 .1)
     in
     let f =
-    c .before .before .before .before .before .before .before .before .before .before .before .before .before .before .fill-names .ensures
+    c14 .fill-names .ensures
     in (
       search needs,
       (
-        c .before .before .before .before .before .before .before .before .before .fill-later .ensures .0,
+        c9 .fill-later .ensures .0,
         (
           omega (
             arith,
             e,
             f .count,
-            c .before .before .before .before .before .before .before .before .before .before .before .before .before .before .before .before .before .before .before .pre .1 .1 .1 .few,
+            c19 .pre .1 .1 .1 .few,
           ),
           linked-ahead _
-              (c .before .before .before .before .before .before .before .before .before .fill-later .last .1 .1 .0) _
-              (c .before .before .before .before .before .before .before .before .before .fill-later .ensures .1),
+              (c9 .fill-later .last .1 .1 .0) _ (c9 .fill-later .ensures .1),
         ),
       ),
     )
@@ -80,18 +80,19 @@ same-length-2 c = search needs
 
 returns : tie.Need-returns
 returns c =
+    let c7 = c .before .before .before .before .before .before .before in
+    let c10 = c7 .before .before .before in
+    let c15 = c10 .before .before .before .before .before in
     let f =
-    c .before .before .before .before .before .before .before .before .before .before .before .before .before .before .before .fill-names .ensures
+    c15 .fill-names .ensures
     in (
-      c .before .before .before .before .before .before .before .before .before .before .before .before .before .before .before .fill-names .ensures .room,
+      c15 .fill-names .ensures .room,
       (
         search needs,
         λ k fits. weighed k _ fits _
-            (c .before .before .before .before .before .before .before .before .before .before .fill-later .last .1 .1 .0) _ _
-            f (c .before .before .before .before .before .before .before .before .before .before .fill-later .ensures .1)
-            (c .before .before .before .before .before .before .before .survey-model .result)
-            (c .before .before .before .before .before .before .before .survey-model .ensures k (fits-stands k _ fits))
-            (c .first-clash .result) (c .first-clash .ensures),
+            (c10 .fill-later .last .1 .1 .0) _ _
+            f (c10 .fill-later .ensures .1) (c7 .survey-model .result)
+            (c7 .survey-model .ensures k (fits-stands k _ fits)) (c .first-clash .result) (c .first-clash .ensures),
       ),
     )
 

@@ -4,7 +4,7 @@ use mathlib.Core.Path.{_≡_, refl, sym, subst}
 use Prim.Native.Nat.{ℕ, _-_}
 use lib.ListN.{take, length-take}
 use Rattle.meaning.specs.Trees.{nodes}
-use Rattle.writer.specs.Inner.Writing.{Ready, Done}
+use Rattle.spelling.specs.Inner.Writing.{Ready, Done}
 use Rattle.table.specs.Encoding.{names}
 use Rattle.table.proofs.Standing.{drafted-length}
 use Rattle.loader.specs.declared.Loaded.the-variants.{Draft}

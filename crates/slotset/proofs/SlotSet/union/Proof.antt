@@ -52,7 +52,9 @@ loop-again c = let l = c .before .loop in
     )
 
 returns : tie.Need-returns Inv-loop μ-loop
-returns c = let a = c .before .before .before .before .args in
+returns c =
+    let c4 = c .before .before .before .before in
+    let a = c4 .args in
     member-union (a .self .marks) (a .o .marks) (c .before .loop .m) (λ k h. c .before .loop .inv .1 .1 k (omega arith))
 
 pub union-spec : {M : Type 1} → statement M
