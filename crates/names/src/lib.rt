@@ -66,12 +66,12 @@ pub fn same(a: &[u8], b: &[u8]) -> bool
     if a.len() != b.len() {
         return false;
     }
-    let mut i = 0;
-    while i < a.len() {
+    let mut i = a.len();
+    while 0 < i {
+        i -= 1;
         if a[i] != b[i] {
             return false;
         }
-        i += 1;
     }
     true
 }

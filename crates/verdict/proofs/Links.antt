@@ -8,7 +8,7 @@ use lib.ListN.{length, getD, set}
 use lib.Seq.{getD-set-same, getD-set-other}
 use Rattle.model.specs.Limits.{nameCountLimit}
 use Rattle.naming.specs.Inner.Numbering.{nameAt}
-use Rattle.verdict.specs.Inner.Search.{FirstAfter}
+use Rattle.verdict.specs.Inner.Search.{FirstAfter, UnlinkedAbove}
 
 -- the slots above x are linked
 abbrev pub LinkedAbove : List ℕ → List ℕ → ℕ → ℕ → Type 0
@@ -68,3 +68,14 @@ module _ (names later seen : List ℕ) (n x m : ℕ) (low : 1 ≤ x) (high : x �
               | no w ↦ f .none z (omega (arith, a, w)) c q
             ];
           }
+
+-- nor has x, whose link leads past the last slot
+pub unlinked : (later : List ℕ) (n x y : ℕ) → 1 ≤ x → x ≤ n → y ≡ getD later (x - 1) 0 → n < y →
+    UnlinkedAbove later n x → UnlinkedAbove later n (x - 1)
+unlinked later n x y low high e past u = record {
+  within = omega arith;
+  none = λ z h i. elim (ℕ-discrete z x) [
+    | yes w ↦ subst (λ v. n < getD later (v - 1) 0) (sym w) (subst (λ v. n < v) e past)
+    | no w ↦ u .none z (omega (arith, h, w)) i
+  ];
+}

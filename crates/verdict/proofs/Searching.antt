@@ -14,7 +14,7 @@ use Rattle.meaning.proofs.Main.{clash-correct, ambiguous-clash, next-correct}
 use Rattle.meaning.proofs.Clashes.{goes-within, goes-from, next-goes}
 use Rattle.slotset.specs.Members.{member, pair}
 use Rattle.naming.specs.Inner.Numbering.{nameAt}
-use Rattle.verdict.specs.Inner.Search.{can, FirstAfter, Linked, Ready}
+use Rattle.verdict.specs.Inner.Search.{can, FirstAfter, Linked, UnlinkedAbove, Ready}
 
 pub can-start : (start square : List ℕ) (p x : ℕ) → p ≡ 0 → can start square p x ≡ member start x
 can-start start square p x e = ap (λ q. can start square q x) e
@@ -112,15 +112,21 @@ module _ (k : Tree ℕ) where
     pub x-none : (p : ℕ) → FreeX p 1
     x-none p w y l c = omega (arith, clash-within p w y c .0)
 
+    -- none of the slots from x on has another of its name behind it
+    x-rest : (p x top : ℕ) → FreeX p x → top < x → UnlinkedAbove later n top → (w y : ℕ) → Clash k p w y → ⊥
+    x-rest p x top f h u w y c = elim (decLt w x) [
+      | yes l ↦ f w y l c
+      | no l ↦
+          let i = clash-within p w y c in
+          let b = u .none w (omega (arith, h, l)) (omega (arith, i .1, i .2)) in
+          y-start p w (getD later (w - 1) 0) (i .0) (omega (arith, i .1, i .2)) refl .0 y (omega (arith, i .2, b)) c
+    ]
+
     -- ---- p
-    pub p-done : (p x : ℕ) → FreeP p → n < x → FreeX p x → FreeP (p + 1)
-    p-done p x f h g = λ q w z l c.
-        less {P = λ u. (v r : ℕ) × Clash k u v r} p (λ u b d. f u (d .0) (d .1) b (d .2))
-        (λ d. let i = clash-within p (d .0) (d .1) (d .2) in g (d .0) (d .1) (omega (arith, i .1, i .2)) (d .2)) q l (
-          w,
-          z,
-          c,
-        )
+    pub p-done : (p x top : ℕ) → FreeP p → top < x → UnlinkedAbove later n top → FreeX p x → FreeP (p + 1)
+    p-done p x top f h u g = λ q w z l c.
+        less {P = λ t. (v r : ℕ) × Clash k t v r} p (λ t b d. f t (d .0) (d .1) b (d .2))
+        (λ d. x-rest p x top g h u (d .0) (d .1) (d .2)) q l (w, z, c)
 
     -- ---- the verdict
     pub none-left : (p : ℕ) → n < p → FreeP p → ¬ Ambiguous k

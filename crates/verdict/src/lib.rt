@@ -8,7 +8,7 @@ ghost use Rattle.meaning.specs.Trees.{Tree};
 ghost use Rattle.slotset.specs.Members.{squareBytes};
 ghost use Rattle.naming.specs.Inner.Numbering.{Fits, Numbers};
 ghost use Rattle.verdict.specs.Verdicts.{VerdictOn, JudgeAnswer};
-ghost use Rattle.verdict.specs.Inner.Search.{can, Linked, Ahead, Ready, Weighs};
+ghost use Rattle.verdict.specs.Inner.Search.{can, Linked, Ahead, UnlinkedAbove, Ready, Weighs};
 use loader::Loaded;
 use model::Model;
 use model::Refusal;
@@ -62,6 +62,21 @@ fn can_follow(square: &[u8], start: SlotSet, p: Slot, x: Slot) -> bool
     slotset::in_row(square, p, x)
 }
 
+// The last slot that has another of its name behind it, or 0.
+fn last_linked(later: &[u16], slots: usize) -> usize
+    requires { ⌜ (length (now later) ≡ slotLimit) × (slots ≤ slotLimit) ⌝ }
+    ensures { λ r. ⌜ UnlinkedAbove (now (later .entry)) slots r ⌝ }
+{
+    let mut x = slots;
+    while 0 < x {
+        if model::wide(later[x - 1]) <= slots {
+            return x;
+        }
+        x -= 1;
+    }
+    x
+}
+
 // The first clash: the smallest p, then the smallest x, then the smallest y.
 fn first_clash(square: &[u8], start: SlotSet, later: &[u16], slots: usize) -> Verdict
     requires { ⌜ (length (now square) ≡ squareBytes) × ((length (now later) ≡ slotLimit)
@@ -69,11 +84,12 @@ fn first_clash(square: &[u8], start: SlotSet, later: &[u16], slots: usize) -> Ve
     ensures { λ r. ⌜ ((k : Tree ℕ) (names : List ℕ) → Linked names (now (later .entry)) slots →
         Ready k (start .marks) (now (square .entry)) names slots → VerdictOn k r) ⌝ }
 {
+    let top = last_linked(later, slots);
     let mut answer = Verdict::Deterministic;
     let mut p = 0;
     'search: while p <= slots {
         let mut x = 1;
-        while x <= slots {
+        while x <= top {
             let mut y = model::wide(later[x - 1]);
             if slots < y {
                 x += 1;

@@ -14,62 +14,80 @@ use Rattle.verdict.proofs.Searching.{none-left, first-found}
 use Rattle.verdict.proofs.first_clash.Statement.{statement}
 use Rattle.verdict.proofs.first_clash.Tie as tie
 
+-- this is so of every tree that the sets and the links are of
+abbrev OfTrees : List ℕ → List ℕ → List ℕ → ℕ → (Tree ℕ → Type 0) → Type 0
+OfTrees square start later n P =
+    (k : Tree ℕ) (names : List ℕ) → Linked names later n → Ready k start square names n → P k
+
 abbrev Inv-loop2 : tie.InvT-loop2
-Inv-loop2 square start later slots answer₀ p x y₀ answer y = (x < y) × ((y ≤ slots + 1) × ((answer ≡ Deterministic) ×
-    ((k : Tree ℕ) (names : List ℕ) → Linked names later slots → Ready k (start .marks) square names slots → At k slots
-    p x y)))
+Inv-loop2 square start later slots top answer₀ p x y₀ answer y =
+    (x < y) × ((y ≤ slots + 1) × ((answer ≡ Deterministic)
+    × OfTrees square (start .marks) later slots (λ k. At k slots p x y)))
 
 abbrev μ-loop2 : tie.MeasureT-loop2
-μ-loop2 square start later slots answer₀ p x y₀ answer y = slots + 1 - y
+μ-loop2 square start later slots top answer₀ p x y₀ answer y = slots + 1 - y
 
 abbrev Inv-loop : tie.InvT-loop
-Inv-loop square start later slots answer₀ p x₀ answer x = (1 ≤ x) × ((x ≤ slots + 1) × ((answer ≡ Deterministic) × ((k
-    : Tree ℕ) (names : List ℕ) → Linked names later slots → Ready k (start .marks) square names slots → FreeX k p x)))
+Inv-loop square start later slots top answer₀ p x₀ answer x =
+    (1 ≤ x) × ((x ≤ top + 1) × ((answer ≡ Deterministic)
+    × OfTrees square (start .marks) later slots (λ k. FreeX k p x)))
 
 abbrev μ-loop : tie.MeasureT-loop
-μ-loop square start later slots answer₀ p x₀ answer x = slots + 1 - x
+μ-loop square start later slots top answer₀ p x₀ answer x = top + 1 - x
 
 abbrev Inv-search : tie.InvT-search
-Inv-search square start later slots answer₀ p₀ answer p = (p ≤ slots + 1) × ((answer ≡ Deterministic) × ((k : Tree ℕ)
-    (names : List ℕ) → Linked names later slots → Ready k (start .marks) square names slots → FreeP k p))
+Inv-search square start later slots top answer₀ p₀ answer p =
+    (p ≤ slots + 1) × ((answer ≡ Deterministic) × OfTrees square (start .marks) later slots (λ k. FreeP k p))
 
 abbrev μ-search : tie.MeasureT-search
-μ-search square start later slots answer₀ p₀ answer p = slots + 1 - p
+μ-search square start later slots top answer₀ p₀ answer p = slots + 1 - p
+
+last-linked-requires :
+    tie.Need-last-linked-requires Inv-loop2 μ-loop2 Inv-loop μ-loop Inv-search μ-search
+last-linked-requires c κs = search needs
 
 search-holds : tie.Need-search-holds Inv-loop2 μ-loop2 Inv-loop μ-loop Inv-search μ-search
 search-holds c = (search needs, (search needs, λ k ns l r q x y h c. omega arith))
 
 loop-holds : tie.Need-loop-holds Inv-loop2 μ-loop2 Inv-loop μ-loop Inv-search μ-search
-loop-holds c = (
-  search needs,
-  (
-    search needs,
-    (
+loop-holds c =
+    let c5 = c .before .before .before .before .before in (
       search needs,
-      λ k ns l r. x-none k
-          (c .before .before .before .before .args .start .marks)
-          (c .before .before .before .before .args .square .now) ns
-          (c .before .before .before .before .args .later .now) (c .before .before .before .before .args .slots) r l
-          (c .before .search .p),
-    ),
-  ),
-)
+      (
+        search needs,
+        (
+          search needs,
+          λ k ns l r. x-none k
+              (c5 .args .start .marks) (c5 .args .square .now) ns (c5 .args .later .now) (c5 .args .slots) r l
+              (c .before .search .p),
+        ),
+      ),
+    )
 
 sub-wide : tie.Need-sub-wide Inv-loop2 μ-loop2 Inv-loop μ-loop Inv-search μ-search
 sub-wide c = search needs
 
 mul-wide : tie.Need-mul-wide Inv-loop2 μ-loop2 Inv-loop μ-loop Inv-search μ-search
-mul-wide c = search needs
+mul-wide c =
+    let c4 = c .before .before .before .before in
+    let c7 = c4 .before .before .before in
+    omega (arith, c4 .last-linked .ensures .within, c7 .pre .1 .1 .0)
 
 shared-slice-read-wide :
     tie.Need-shared-slice-read-wide Inv-loop2 μ-loop2 Inv-loop μ-loop Inv-search μ-search
-shared-slice-read-wide c = search needs
+shared-slice-read-wide c =
+    let c5 = c .before .before .before .before .before in
+    let c8 = c5 .before .before .before in
+    omega (arith, c5 .last-linked .ensures .within, c8 .pre .1 .1 .0)
 
 wide-requires : tie.Need-wide-requires Inv-loop2 μ-loop2 Inv-loop μ-loop Inv-search μ-search
 wide-requires c κs = search needs
 
 add-x : tie.Need-add-x Inv-loop2 μ-loop2 Inv-loop μ-loop Inv-search μ-search
-add-x c = search needs
+add-x c =
+    let c7 = c .before .before .before .before .before .before .before in
+    let c10 = c7 .before .before .before in
+    omega (arith, c7 .last-linked .ensures .within, c10 .pre .1 .1 .0)
 
 loop-less : tie.Need-loop-less Inv-loop2 μ-loop2 Inv-loop μ-loop Inv-search μ-search
 loop-less c = search needs
@@ -78,20 +96,21 @@ loop-again : tie.Need-loop-again Inv-loop2 μ-loop2 Inv-loop μ-loop Inv-search 
 loop-again c =
     let c3 = c .before .before .before in
     let c6 = c3 .before .before .before in
-    let c9 = c6 .before .before .before in (
+    let c10 = c6 .before .before .before .before in (
       search needs,
       (
         search needs,
         (
           search needs,
           λ k ns l r. x-done k
-              (c9 .args .start .marks) (c9 .args .square .now) ns (c9 .args .later .now) (c9 .args .slots) r l
+              (c10 .args .start .marks) (c10 .args .square .now) ns (c10 .args .later .now) (c10 .args .slots) r l
               (c6 .search .p) (c3 .before .loop .x)
               (c .before .wide .result) (c3 .before .loop .inv .1 .1 .1 k ns l r) (c .if1 .taken)
-              (y-start k (c9 .args .start .marks) (c9 .args .square .now) ns (c9 .args .later .now)
-              (c9 .args .slots) r l
+              (y-start k (c10 .args .start .marks) (c10 .args .square .now) ns (c10 .args .later .now)
+              (c10 .args .slots) r l
               (c6 .search .p) (c3 .before .loop .x) (c .before .wide .result) (c3 .before .loop .inv .0)
-              (c3 .loop-test .taken) (c .before .wide .ensures .0)),
+              (omega (arith, c3 .loop-test .taken, c6 .before .last-linked .ensures .within))
+              (c .before .wide .ensures .0)),
         ),
       ),
     )
@@ -101,7 +120,10 @@ can-follow-requires :
 can-follow-requires c κs = search needs
 
 add-x-2 : tie.Need-add-x-2 Inv-loop2 μ-loop2 Inv-loop μ-loop Inv-search μ-search
-add-x-2 c = search needs
+add-x-2 c =
+    let c9 = c .before .before .before .before .before .before .before .before .before in
+    let c12 = c9 .before .before .before in
+    omega (arith, c9 .last-linked .ensures .within, c12 .pre .1 .1 .0)
 
 loop-less-2 : tie.Need-loop-less-2 Inv-loop2 μ-loop2 Inv-loop μ-loop Inv-search μ-search
 loop-less-2 c = search needs
@@ -109,15 +131,15 @@ loop-less-2 c = search needs
 loop-again-2 : tie.Need-loop-again-2 Inv-loop2 μ-loop2 Inv-loop μ-loop Inv-search μ-search
 loop-again-2 c =
     let c6 = c .before .before .before .before .before .before in
-    let c11 = c6 .before .before .before .before .before in (
+    let c12 = c6 .before .before .before .before .before .before in (
       search needs,
       (
         search needs,
         (
           search needs,
           λ k ns l r. x-skip k
-              (c11 .args .start .marks) (c11 .args .square .now)
-              ns (c11 .args .later .now) (c11 .args .slots) r l (c6 .before .before .search .p) (c6 .loop .x)
+              (c12 .args .start .marks) (c12 .args .square .now)
+              ns (c12 .args .later .now) (c12 .args .slots) r l (c6 .before .before .search .p) (c6 .loop .x)
               (c6 .loop .inv .1 .1 .1 k ns l r) (sym (c .before .can-follow .ensures) ∙ not-true _ (c .if2 .taken)),
         ),
       ),
@@ -127,18 +149,21 @@ loop2-holds : tie.Need-loop2-holds Inv-loop2 μ-loop2 Inv-loop μ-loop Inv-searc
 loop2-holds c =
     let c3 = c .before .before .before in
     let c6 = c3 .before .before .before in
-    let c11 = c6 .before .before .before .before .before in
+    let c9 = c6 .before .before .before in
+    let c12 = c9 .before .before .before in
+    let i : c6 .loop .x ≤ c12 .args .slots =
+    omega (arith, c3 .before .before .loop-test .taken, c9 .last-linked .ensures .within) in
     let e = c3 .wide .ensures .0 in
-    let g = c11 .pre .1 .1 .1 (c6 .loop .x) (c6 .loop .inv .0) (c3 .before .before .loop-test .taken) in (
+    let g = c12 .pre .1 .1 .1 (c6 .loop .x) (c6 .loop .inv .0) i in (
       omega (arith, e, g .0),
       (
         omega (arith, e, g .1),
         (
           search needs,
           λ k ns l r. y-start k
-              (c11 .args .start .marks) (c11 .args .square .now) ns (c11 .args .later .now) (c11 .args .slots) r
+              (c12 .args .start .marks) (c12 .args .square .now) ns (c12 .args .later .now) (c12 .args .slots) r
               l (c6 .before .before .search .p) (c6 .loop .x) (c3 .wide .result) (c6 .loop .inv .0)
-              (c3 .before .before .loop-test .taken) e,
+              i e,
         ),
       ),
     )
@@ -164,19 +189,20 @@ loop2-less : tie.Need-loop2-less Inv-loop2 μ-loop2 Inv-loop μ-loop Inv-search 
 loop2-less c =
     let c4 = c .before .before .before .before in
     let c5 = c4 .before in
-    let c17 = c5 .before .before .before .before .before .before .before .before .before .before .before .before in
+    let c11 = c5 .before .before .before .before .before .before in
+    let c18 = c11 .before .before .before .before .before .before .before in
     let e = c .wide2 .ensures .0 in
-    let g = c17 .pre .1 .1 .1 (c5 .loop2 .y) (omega (arith, c5 .loop2 .inv .0)) (c4 .loop2-test .taken) in
+    let g = c18 .pre .1 .1 .1 (c5 .loop2 .y) (omega (arith, c5 .loop2 .inv .0)) (c4 .loop2-test .taken) in
     omega (arith, e, g .0, g .1, c4 .loop2-test .taken)
 
 loop2-again : tie.Need-loop2-again Inv-loop2 μ-loop2 Inv-loop μ-loop Inv-search μ-search
 loop2-again c =
     let c3 = c .before .before .before in
     let c12 = c3 .before .before .before .before .before .before .before .before .before in
-    let c17 = c12 .before .before .before .before .before in
+    let c18 = c12 .before .before .before .before .before .before in
     let e = c .wide2 .ensures .0 in
     let g =
-    c17 .pre .1 .1 .1 (c3 .before .before .loop2 .y) (omega (
+    c18 .pre .1 .1 .1 (c3 .before .before .loop2 .y) (omega (
       arith,
       c3 .before .before .loop2 .inv .0,
     )) (c3 .before .loop2-test .taken)
@@ -187,8 +213,8 @@ loop2-again c =
         (
           search needs,
           λ k ns l r. y-step k
-              (c17 .args .start .marks) (c17 .args .square .now)
-              ns (c17 .args .later .now) (c17 .args .slots)
+              (c18 .args .start .marks) (c18 .args .square .now)
+              ns (c18 .args .later .now) (c18 .args .slots)
               r l (c12 .before .before .search .p) (c12 .loop .x) (c3 .before .before .loop2 .y) (c .wide2 .result)
               (c3 .before .before .loop2 .inv .0) (c3 .before .loop2-test .taken)
               (c3 .before .before .loop2 .inv .1 .1 .1 k ns l r) (sym
@@ -198,7 +224,10 @@ loop2-again c =
     )
 
 add-x-3 : tie.Need-add-x-3 Inv-loop2 μ-loop2 Inv-loop μ-loop Inv-search μ-search
-add-x-3 c = search needs
+add-x-3 c =
+    let c11 = c .before .before .before .before .before .before .before .before .before .before .before in
+    let c14 = c11 .before .before .before in
+    omega (arith, c11 .last-linked .ensures .within, c14 .pre .1 .1 .0)
 
 loop-less-3 : tie.Need-loop-less-3 Inv-loop2 μ-loop2 Inv-loop μ-loop Inv-search μ-search
 loop-less-3 c = search needs
@@ -206,15 +235,15 @@ loop-less-3 c = search needs
 loop-again-3 : tie.Need-loop-again-3 Inv-loop2 μ-loop2 Inv-loop μ-loop Inv-search μ-search
 loop-again-3 c =
     let c8 = c .before .before .before .before .before .before .before .before in
-    let c13 = c8 .before .before .before .before .before in (
+    let c14 = c8 .before .before .before .before .before .before in (
       search needs,
       (
         search needs,
         (
           search needs,
           λ k ns l r. x-done k
-              (c13 .args .start .marks) (c13 .args .square .now)
-              ns (c13 .args .later .now) (c13 .args .slots)
+              (c14 .args .start .marks) (c14 .args .square .now)
+              ns (c14 .args .later .now) (c14 .args .slots)
               r l (c8 .before .before .search .p) (c8 .loop .x) (c .before .loop2 .y) (c8 .loop .inv .1 .1 .1 k ns l r)
               (c .loop2-test .left) (c .before .loop2 .inv .1 .1 .1 k ns l r),
         ),
@@ -230,32 +259,32 @@ search-less c = search needs
 search-again : tie.Need-search-again Inv-loop2 μ-loop2 Inv-loop μ-loop Inv-search μ-search
 search-again c =
     let c3 = c .before .before .before in
-    let c6 = c3 .before .before .before in (
+    let c7 = c3 .before .before .before .before in (
       search needs,
       (
         search needs,
         λ k ns l r. p-done k
-            (c6 .args .start .marks) (c6 .args .square .now) ns (c6 .args .later .now)
-            (c6 .args .slots) r l (c3 .search .p)
-            (c .before .loop .x) (c3 .search .inv .1 .1 k ns l r) (c .loop-test .left)
-            (c .before .loop .inv .1 .1 .1 k ns l r),
+            (c7 .args .start .marks) (c7 .args .square .now) ns (c7 .args .later .now)
+            (c7 .args .slots) r l (c3 .search .p)
+            (c .before .loop .x) (c3 .before .last-linked .result) (c3 .search .inv .1 .1 k ns l r)
+            (c .loop-test .left) (c3 .before .last-linked .ensures) (c .before .loop .inv .1 .1 .1 k ns l r),
       ),
     )
 
 returns : tie.Need-returns Inv-loop2 μ-loop2 Inv-loop μ-loop Inv-search μ-search
 returns c =
-    rw (c .before .search .inv .1 .0) λ k ns l r. none-left k (c .before .before .before .before .args .start .marks)
-    (c .before .before .before .before .args .square .now) ns (c .before .before .before .before .args .later .now)
-    (c .before .before .before .before .args .slots) r l (c .before .search .p) (c .search-test .left)
-    (c .before .search .inv .1 .1 k ns l r)
+    let c5 = c .before .before .before .before .before in
+    rw (c .before .search .inv .1 .0) λ k ns l r. none-left k (c5 .args .start .marks)
+    (c5 .args .square .now) ns (c5 .args .later .now)
+    (c5 .args .slots) r l (c .before .search .p) (c .search-test .left) (c .before .search .inv .1 .1 k ns l r)
 
 returns-2 : tie.Need-returns-2 Inv-loop2 μ-loop2 Inv-loop μ-loop Inv-search μ-search
 returns-2 c =
     let c3 = c .before .before .before in
     let c10 = c3 .before .before .before .before .before .before .before in
-    let c15 = c10 .before .before .before .before .before in
-    λ k ns l r. first-found k (c15 .args .start .marks) (c15 .args .square .now)
-    ns (c15 .args .later .now) (c15 .args .slots)
+    let c16 = c10 .before .before .before .before .before .before in
+    λ k ns l r. first-found k (c16 .args .start .marks) (c16 .args .square .now)
+    ns (c16 .args .later .now) (c16 .args .slots)
     r l (c10 .before .before .search .p) (c10 .loop .x) (c3 .loop2 .y) (c3 .loop2 .inv .0)
     (c .before .before .loop2-test .taken) (c10 .before .before .search .inv .1 .1
     k ns l r) (c10 .loop .inv .1 .1 .1 k
@@ -272,6 +301,7 @@ first-clash-spec =
     μ-loop
     Inv-search
     μ-search
+    last-linked-requires
     search-holds
     loop-holds
     sub-wide

@@ -33,6 +33,11 @@ Linked names later n = (x : ℕ) → 1 ≤ x → x ≤ n → FirstAfter names n 
 abbrev pub Ahead : List ℕ → ℕ → Type 0
 Ahead later n = (x : ℕ) → 1 ≤ x → x ≤ n → (x < getD later (x - 1) 0) × (getD later (x - 1) 0 ≤ n + 1)
 
+-- of n slots none above x has a link that leads to a slot
+pub record UnlinkedAbove (later : List ℕ) (n x : ℕ) : Type 0 where
+  pub within : x ≤ n
+  pub none : (z : ℕ) → x < z → z ≤ n → n < getD later (z - 1) 0
+
 -- a tree of n slots with these names, of which the sets say what can come next
 pub record Ready (k : Tree ℕ) (start square names : List ℕ) (n : ℕ) : Type 0 where
   pub slots : length (leaves k) ≡ n
