@@ -1,7 +1,9 @@
 // The survey of a draft: whether the empty list is allowed, which slots can stand first and last, and which can follow.
+#![tactic(auto)]
+
 ghost use Rattle.std.specs.Prelude.{◌≡◌, ◌||◌, ◌&&◌, ℕ, length};
 ghost use Rattle.meaning.specs.Trees.{Tree};
-ghost use Rattle.meaning.specs.Inner.Expressions.{skips as skips-of, repeats as repeats-of};
+ghost use Rattle.meaning.specs.Inner.Expressions.{skips as skips_of, repeats as repeats_of};
 ghost use Rattle.slotset.specs.Members.{square_bytes};
 ghost use Rattle.survey.specs.Inner.Fours.{mark4, add4};
 ghost use Rattle.survey.specs.Inner.Finding.{is_sequence, Stands, said, Tells, Found, Surveyed};
@@ -11,7 +13,7 @@ use slotset::SlotSet;
 
 // Of a node: where its words end, its next slot, whether the empty list is allowed, and which slots can stand first and
 // last.
-#[derive(Drop)]
+#[derive(Clone, Copy)]
 pub struct Survey {
     pub next: usize,
     pub slot: Slot,
@@ -32,7 +34,7 @@ fn is_sequence(k: Kind) -> bool
 
 // Whether a mark may join no list, and whether it may join two.
 fn skips(m: Mark) -> bool
-    ensures { result ≡ skips-of m }
+    ensures { result ≡ skips_of m }
 {
     match m {
         Mark::Plain => false,
@@ -43,7 +45,7 @@ fn skips(m: Mark) -> bool
 }
 
 fn repeats(m: Mark) -> bool
-    ensures { result ≡ repeats-of m }
+    ensures { result ≡ repeats_of m }
 {
     match m {
         Mark::Plain => false,

@@ -1,2 +1,0 @@
--- The cases of a node.
-pub mod Nodes

@@ -1,2 +1,0 @@
--- The kind and the mark of the highest numbers.
-pub mod Highest
