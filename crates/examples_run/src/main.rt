@@ -1,73 +1,36 @@
 // Runs the examples of document 01, "Examples, both sides", that are not marked P, and the table of "Tree table".
-use libc::STDOUT_FILENO;
+#![tactic(auto)]
+
 use model::Model;
 use reading::Outcome;
+use std::io;
 use writer::Counted;
 
-// ---- printing
-fn put(word: &[u8]) {
-    io::write_all(STDOUT_FILENO, word);
-}
-
-fn put_number(n: usize) {
-    io::print_decimal(STDOUT_FILENO, n as u64);
-}
-
-fn wide(x: u8) -> u64 {
-    x as u64
-}
-
-fn put_bytes(bytes: &[u8]) {
-    let mut i = 0;
-    while i < bytes.len() {
-        put(b" ");
-        io::print_hex(STDOUT_FILENO, wide(bytes[i]), 2);
-        i += 1;
-    }
-}
-
-// How many nodes the table in the first n bytes of the room has.
-fn put_nodes(room: &[u8], n: usize) {
-    if n <= room.len() {
-        let counted = writer::count(&room[0..n]);
-        if let Counted::Counts(m) = counted {
-            put_number(m.nodes);
-            put(b" nodes, read");
-        }
-    }
-}
-
 // The answer of reading, behind what the example is called.
-fn show(called: &[u8], text: &[u8]) {
-    put(called);
-    put(b": ");
+fn show(rt: &impl Print, called: &str, text: &[u8]) -> io::Result<()> {
     let mut table = [0u8; Model::TABLE_ROOM];
-    let read = reading::read(text, &mut table);
-    match read {
-        Outcome::Refused(f) => {
-            put_number(f.number());
-            put(b" at ");
-            put_number(f.place());
-        }
-        Outcome::Table(n) => put_nodes(&table, n),
+    match reading::read(text, &mut table) {
+        Outcome::Refused(f) => println!(rt; "{called}: {} at {}", f.number(), f.place()),
+        Outcome::Table(n) => match writer::count(&table[..n]) {
+            Counted::Counts(m) => println!(rt; "{called}: {} nodes, read", m.nodes),
+            Counted::Refused(_) => println!(rt; "{called}: "),
+        },
     }
-    put(b"\n");
 }
 
 // The table that a text is read into: its length and its bytes.
-fn show_table(text: &[u8]) {
-    put(text);
-    put(b": ");
+fn show_table(rt: &impl Print, text: &str) -> io::Result<()> {
     let mut table = [0u8; Model::TABLE_ROOM];
-    let read = reading::read(text, &mut table);
-    if let Outcome::Table(n) = read {
-        put_number(n);
-        put(b" bytes:");
-        if n <= Model::TABLE_ROOM {
-            put_bytes(&table[0..n]);
+    match reading::read(text.as_bytes(), &mut table) {
+        Outcome::Refused(_) => println!(rt; "{text}: "),
+        Outcome::Table(n) => {
+            print!(rt; "{text}: {n} bytes:")?;
+            for b in &table[..n] {
+                print!(rt; " {b:02x}")?;
+            }
+            println!(rt; "")
         }
     }
-    put(b"\n");
 }
 
 // ---- long texts
@@ -82,10 +45,8 @@ fn push(text: &mut [u8], at: usize, b: u8) -> usize {
 
 fn push_many(text: &mut [u8], at: usize, b: u8, times: usize) -> usize {
     let mut end = at;
-    let mut i = 0;
-    while i < times {
+    for _ in 0..times {
         end = push(text, end, b);
-        i += 1;
     }
     end
 }
@@ -100,45 +61,41 @@ fn push_groups(text: &mut [u8], at: usize, pairs: usize) -> usize {
 // 128 times `(((a)))` joined by commas in one group, with so many pairs of brackets around the last name.
 fn push_members(text: &mut [u8], last: usize) -> usize {
     let mut end = push(text, 0, b'(');
-    let mut i: usize = 1;
-    while i < 128 {
+    for _ in 1..128 {
         end = push_groups(text, end, 3);
         end = push(text, end, b',');
-        i += 1;
     }
     end = push_groups(text, end, last);
     push(text, end, b')')
 }
 
-fn show_part(called: &[u8], text: &[u8], end: usize) {
+fn show_part(rt: &impl Print, called: &str, text: &[u8], end: usize) -> io::Result<()> {
     if end <= text.len() {
-        show(called, &text[0..end]);
+        show(rt, called, &text[..end])?;
     }
+    Ok(())
 }
 
-fn show_groups(called: &[u8], pairs: usize) {
+fn show_groups(rt: &impl Print, called: &str, pairs: usize) -> io::Result<()> {
     let mut text = [0u8; Model::TEXT];
     let end = push_groups(&mut text, 0, pairs);
-    show_part(called, &text, end);
+    show_part(rt, called, &text, end)
 }
 
-fn show_members(called: &[u8], last: usize) {
+fn show_members(rt: &impl Print, called: &str, last: usize) -> io::Result<()> {
     let mut text = [0u8; Model::TEXT];
     let end = push_members(&mut text, last);
-    show_part(called, &text, end);
+    show_part(rt, called, &text, end)
 }
 
-fn main() {
-    show(b"(a|b,c)", b"(a|b,c)");
-    show(b"()", b"()");
-    show(b"(a", b"(a");
-    show(b"(a *)", b"(a *)");
-    show(b"(a**)", b"(a**)");
-    show(b"(#PCDATA)", b"(#PCDATA)");
-    show(b"empty text", b"");
-    show_members(b"128 times (((a)))", 3);
-    show_members(b"one pair of brackets fewer around the last name", 2);
-    show_groups(b"32 groups around a name", 32);
-    show_groups(b"33 groups around a name", 33);
-    show_table(b"(house*,(line,house*)?)");
+fn main(rt: HostRuntime) -> io::Result<()> {
+    for text in ["(a|b,c)", "()", "(a", "(a *)", "(a**)", "(#PCDATA)"] {
+        show(&rt, text, text.as_bytes())?;
+    }
+    show(&rt, "empty text", b"")?;
+    show_members(&rt, "128 times (((a)))", 3)?;
+    show_members(&rt, "one pair of brackets fewer around the last name", 2)?;
+    show_groups(&rt, "32 groups around a name", 32)?;
+    show_groups(&rt, "33 groups around a name", 33)?;
+    show_table(&rt, "(house*,(line,house*)?)")
 }
