@@ -1,8 +1,8 @@
 /*
  * Checks the committee's own model, (house*,line?,house*), shows where its two readings part, and then matches a list
- * against the model that says the same without the doubt. From the repository's root, after `rt staticlib exports`:
+ * against the model that says the same without the doubt. From the repository's root, after `(cd crates/exports && rt lib)`:
  *
- *     cc -Iinclude examples/c/check.c target/staticlib/libexports.a -o target/check && target/check
+ *     out=crates/exports/out; cc -Iinclude examples/c/check.c $out/libexports.a -o $out/check && $out/check
  *
  * It prints
  *
