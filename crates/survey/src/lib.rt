@@ -1,172 +1,113 @@
-// The survey of a draft: whether the empty list is allowed, which slots can stand first and last, and which can follow.
+//! The survey of a model's nodes: whether the empty list is allowed, which slots can stand first and last, and which can follow.
 #![tactic(auto)]
 
-ghost use Rattle.std.specs.Prelude.{◌≡◌, ◌||◌, ◌&&◌, ℕ, length};
+ghost use Rattle.std.specs.Prelude.{◌≡◌, ℕ};
 ghost use Rattle.meaning.specs.Trees.{Tree};
-ghost use Rattle.meaning.specs.Inner.Expressions.{skips as skips_of, repeats as repeats_of};
-ghost use Rattle.slotset.specs.Members.{square_bytes};
 ghost use Rattle.survey.specs.Inner.Fours.{mark4, add4};
-ghost use Rattle.survey.specs.Inner.Finding.{is_sequence, Stands, said, Tells, Found, Surveyed};
+ghost use Rattle.survey.specs.Inner.Finding.{is_sequence, said, Tells, Stands, Found, Surveyed};
 
-use model::{Kind, Mark, Slot};
-use slotset::SlotSet;
+use model::{Kind, Mark, Node, Slot};
+use slotset::{Follow, SlotSet};
 
-// Of a node: where its words end, its next slot, whether the empty list is allowed, and which slots can stand first and
-// last.
+/// What is found of a node, or of some members of a group.
+// nobody prints or compares it
 #[derive(Clone, Copy)]
 pub struct Survey {
+    /// The place of the node behind it.
     pub next: usize,
+    /// The first slot behind it.
     pub slot: Slot,
+    /// Whether the empty list is allowed.
     pub empty: bool,
+    /// The slots that some allowed list begins with.
     pub first: SlotSet,
+    /// The slots that some allowed list ends with.
     pub last: SlotSet,
 }
 
-fn is_sequence(k: Kind) -> bool
-    ensures { result ≡ is_sequence k }
-{
-    match k {
-        Kind::Name => false,
-        Kind::Sequence => true,
-        Kind::Choice => false,
+impl Survey {
+    /// Surveys a whole model, by its nodes in preorder: whether the empty list is allowed, first, last, and in `follow`,
+    /// whatever was in it, exactly what can follow.
+    pub fn of(nodes: &[Node], follow: &mut Follow) -> Survey
+        requires { (t : Tree ℕ) × Stands t nodes.now 0 1 }
+        ensures { (t : Tree ℕ) → Stands t nodes.now 0 1 → Surveyed t result follow.new }
+    {
+        *follow = Follow::empty();
+        survey_node(nodes, 0, Slot(1), follow)
+    }
+
+    // With a mark: what may come again follows itself.
+    fn marked(self, mark: Mark, follow: &mut Follow) -> Survey
+        ensures { Tells result follow.new self.next self.slot.0
+            (λ p y. mark4 mark (said self follow.old p y)) }
+    {
+        if mark.repeats() {
+            follow.link(self.last, self.first);
+        }
+        Survey {
+            empty: mark.skips() || self.empty,
+            ..self
+        }
+    }
+
+    // The members so far and the next one, in a group of this kind.
+    fn joined(self, kind: Kind, next: Survey, follow: &mut Follow) -> Survey
+        ensures { Tells result follow.new next.next next.slot.0
+            (λ p y. add4 (is_sequence kind) (said self follow.old p y) (said next follow.old p y)) }
+    {
+        if kind == Kind::Sequence {
+            follow.link(self.last, next.first);
+            return Survey {
+                empty: self.empty && next.empty,
+                first: if self.empty {
+                    self.first | next.first
+                } else {
+                    self.first
+                },
+                last: if next.empty {
+                    next.last | self.last
+                } else {
+                    next.last
+                },
+                ..next
+            };
+        }
+        Survey {
+            empty: self.empty || next.empty,
+            first: self.first | next.first,
+            last: self.last | next.last,
+            ..next
+        }
     }
 }
 
-// Whether a mark may join no list, and whether it may join two.
-fn skips(m: Mark) -> bool
-    ensures { result ≡ skips_of m }
+/// Surveys the node at `at`, whose first slot is `slot`, with its members, and adds to `follow` what can follow in it.
+pub fn survey_node(nodes: &[Node], at: usize, slot: Slot, follow: &mut Follow) -> Survey
+    requires { (t : Tree ℕ) × Stands t nodes.now at slot.0 }
+    ensures { (t : Tree ℕ) → Stands t nodes.now at slot.0 → Found t at slot.0 follow.old result follow.new }
 {
-    match m {
-        Mark::Plain => false,
-        Mark::Optional => true,
-        Mark::Star => true,
-        Mark::Plus => false,
-    }
-}
-
-fn repeats(m: Mark) -> bool
-    ensures { result ≡ repeats_of m }
-{
-    match m {
-        Mark::Plain => false,
-        Mark::Optional => false,
-        Mark::Star => true,
-        Mark::Plus => true,
-    }
-}
-
-fn both(a: bool, b: bool) -> bool
-    ensures { result ≡ (a && b) }
-{
-    if a {
-        return b;
-    }
-    false
-}
-
-fn either(a: bool, b: bool) -> bool
-    ensures { result ≡ (a || b) }
-{
-    if a {
-        return true;
-    }
-    b
-}
-
-// A survey with a mark: what is repeated follows itself.
-fn marked(a: Survey, mark: Mark, square: &mut [u8]) -> Survey
-    requires { length square.old ≡ square_bytes }
-    ensures { Tells result square.new a.next a.slot.0
-        (λ p y. mark4 mark (said a square.old p y)) }
-{
-    let first = a.first;
-    let last = a.last;
-    let slot = a.slot;
-    slotset::link_if(square, repeats(mark), last, first);
-    Survey {
-        next: a.next,
-        slot,
-        empty: either(skips(mark), a.empty),
-        first,
-        last,
-    }
-}
-
-// The survey of the members so far and of the next one, in a sequence or in a choice.
-fn joined(sequence: bool, a: Survey, b: Survey, square: &mut [u8]) -> Survey
-    requires { length square.old ≡ square_bytes }
-    ensures { Tells result square.new b.next b.slot.0
-        (λ p y. add4 sequence (said a square.old p y) (said b square.old p y)) }
-{
-    let af = a.first;
-    let al = a.last;
-    let bf = b.first;
-    let bl = b.last;
-    let slot = b.slot;
-    if sequence {
-        slotset::link(square, al, bf);
-        return Survey {
-            next: b.next,
-            slot,
-            empty: both(a.empty, b.empty),
-            first: af.union_if(a.empty, bf),
-            last: bl.union_if(b.empty, al),
-        };
-    }
-    Survey {
-        next: b.next,
-        slot,
-        empty: either(a.empty, b.empty),
-        first: af.union(bf),
-        last: al.union(bl),
-    }
-}
-
-// Surveys the node at `node`, whose first slot is `slot`, and adds to the square what can follow in it.
-pub fn survey_node(words: &[u32], node: usize, slot: Slot, square: &mut [u8]) -> Survey
-    requires { (length square.old ≡ square_bytes) × ((t : Tree ℕ) × Stands t words.now node slot.0) }
-    ensures { (t : Tree ℕ) → Stands t words.now node slot.0 →
-        Found t node slot.0 square.old result square.new }
-{
-    let n = draft::node_of(words[node]);
-    let kind = n.kind;
-    let mark = n.mark;
-    if draft::is_name(kind) {
+    let node = nodes[at];
+    if node.kind == Kind::Name {
         let one = SlotSet::one(slot);
         let name = Survey {
-            next: node + 1,
+            next: at + 1,
             slot: Slot(slot.0 + 1),
             empty: false,
             first: one,
             last: one,
         };
-        return marked(name, mark, square);
+        return name.marked(node.mark, follow);
     }
-    let sequence = is_sequence(kind);
-    let none = SlotSet::none();
-    let mut sofar = Survey {
-        next: node + 1,
+    let mut group = Survey {
+        next: at + 1,
         slot,
-        empty: sequence,
-        first: none,
-        last: none,
+        empty: node.kind == Kind::Sequence,
+        first: SlotSet::empty(),
+        last: SlotSet::empty(),
     };
-    let mut k = n.value;
-    while k > 0 {
-        let at = sofar.next;
-        let from = sofar.slot;
-        let member = survey_node(words, at, from, square);
-        sofar = joined(sequence, sofar, member, square);
-        k -= 1;
+    for _k in 0..node.value {
+        let member = survey_node(nodes, group.next, group.slot, follow);
+        group = group.joined(node.kind, member, follow);
     }
-    marked(sofar, mark, square)
-}
-
-// Surveys a whole model: first, last, and in the square exactly what can follow.
-pub fn survey_model(words: &[u32], square: &mut [u8]) -> Survey
-    requires { (length square.old ≡ square_bytes) × ((t : Tree ℕ) × Stands t words.now 0 1) }
-    ensures { (t : Tree ℕ) → Stands t words.now 0 1 → Surveyed t result square.new }
-{
-    slotset::clear(square);
-    survey_node(words, 0, Slot(1), square)
+    group.marked(node.mark, follow)
 }

@@ -1,9 +1,0 @@
--- No more is read than the room has.
-use Rattle.std.proofs.Common.{length, ◌-◌, ◌≤◌}
-use Rattle.slots.proofs.read_full.Given as goal
-
-abbrev pub invariant-loop-done : goal.invariant-loop-done
-invariant-loop-done g l = l.done ≤ length l.room
-
-abbrev pub decreases-loop-done : goal.decreases-loop-done
-decreases-loop-done g l = length l.initial.room - l.done
