@@ -15,7 +15,7 @@ pub record SameDraft (d e : Draft) : Type 0 where
   pub source : d.source ≡ e.source
   pub nodes : nodes_of d ≡ nodes_of e
   pub names_are : names_of d ≡ names_of e
-  pub counts_are : d.counts ≡ e.counts
+  pub same_slots : d.slots ≡ e.slots
 
 -- such drafts, or the same refusal
 abbrev pub SameAnswer : Result Draft Refusal → Result Draft Refusal → Type 0
@@ -30,5 +30,5 @@ same_model d e t u a b q s = record {
   source = s;
   nodes = a.nodes_are ∙ ap (λ t. preorder (numbers t)) q ∙ sym b.nodes_are;
   names_are = a.names_are ∙ ap names q ∙ sym b.names_are;
-  counts_are = a.counts_are ∙ ap counts q ∙ sym b.counts_are;
+  same_slots = ap (λ c. c.slots) (a.counts_are ∙ ap counts q ∙ sym b.counts_are);
 }

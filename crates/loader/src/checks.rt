@@ -119,7 +119,7 @@ pub fn is_nested(nodes: &[Node]) -> bool
 // ---- 17: the length of the text
 // The bytes that a node has of its own in the text.
 fn cost_of(draft: &Draft<'_>, node: &Node) -> usize
-    requires { is_leaf node.now ≡ true → node.now.value < draft.now.counts.names }
+    requires { is_leaf node.now ≡ true → node.now.value < length draft.now.names.items }
     ensures cost { result ≡ cost (name_size draft.now) node.now }
     ensures small { result ≤ 65537 }
 {
@@ -133,7 +133,7 @@ fn cost_of(draft: &Draft<'_>, node: &Node) -> usize
 /// The length in bytes of the text that the draft's nodes and names are written as.
 #[tactic(auto, using(table::proofs::Steps::total_at, table::proofs::Steps::total_end, table::proofs::Steps::leaves_at))]
 pub fn text_length(draft: &Draft<'_>) -> usize
-    requires { Each (λ v. v < draft.now.counts.names) (leaves_of (nodes_of draft.now)) }
+    requires { Each (λ v. v < length draft.now.names.items) (leaves_of (nodes_of draft.now)) }
     ensures { result ≡ total (name_size draft.now) (nodes_of draft.now) }
 {
     let mut length = 0;

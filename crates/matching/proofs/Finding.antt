@@ -39,29 +39,29 @@ number_here (n ∷ ms) f (a ∷ l) zero m d e h = head-eq_of_cons-eq e
 number_here (n ∷ ms) f (a ∷ l) (suc i) m d e h = number_here ms f l i m d (tail-eq_of_cons-eq e) (omega arith)
 
 module _ (t : Tree Bytes) (p : Prepared) (k : Known t p) where
-  pub slots_are : p.draft.counts.slots ≡ length (leaves t)
+  pub slots_are : p.draft.slots ≡ length (leaves t)
   slots_are = ap (λ c. c.slots) k.holds.counts_are
 
   -- the name number that is held for a slot, and the name
-  number_is : (i : ℕ) → i < p.draft.counts.slots → (get_or p.names i (record { 0 = 0 })).0 ≡ number_at t (i + 1)
+  number_is : (i : ℕ) → i < p.draft.slots → (get_or p.names i (record { 0 = 0 })).0 ≡ number_at t (i + 1)
   number_is i h =
-      ap (λ m. m.0) (sym (get_or-take p.draft.counts.slots p.names i (record { 0 = 0 }) h))
-      ∙ number_here (take p.draft.counts.slots p.names) (λ a. index same_bytes a (names t)) (leaves t) i
+      ap (λ m. m.0) (sym (get_or-take p.draft.slots p.names i (record { 0 = 0 }) h))
+      ∙ number_here (take p.draft.slots p.names) (λ a. index same_bytes a (names t)) (leaves t) i
       (record { 0 = 0 }) (first_leaf t)
       (k.names_are ∙ leaves_relabel (λ a. index same_bytes a (names t)) t) (omega (arith, slots_are))
       ∙ ap (λ j. index same_bytes (get_or (leaves t) j (first_leaf t)) (names t)) (omega arith)
 
-  pub slot_number : (x : ℕ) → 1 ≤ x → x ≤ p.draft.counts.slots →
+  pub slot_number : (x : ℕ) → 1 ≤ x → x ≤ p.draft.slots →
       (get_or p.names (x - 1) (record { 0 = 0 })).0 ≡ number_at t x
   slot_number x f h = number_is (x - 1) (omega arith) ∙ ap (number_at t) (omega arith)
 
-  pub number_below : (x v : ℕ) → v ≡ number_at t x → v < p.draft.counts.names
+  pub number_below : (x v : ℕ) → v ≡ number_at t x → v < length p.draft.names.items
   number_below x v e = number_known p.draft t k.holds x v e
 
   pub slot_name : (x v : ℕ) → v ≡ number_at t x → name_at p.draft v ≡ named t x
   slot_name x v e = number_name p.draft t k.holds x v e
 
-  step_slot : (q : ℕ) (a : Bytes) (x : ℕ) → Step t q a x → (1 ≤ x) × (x ≤ p.draft.counts.slots)
+  step_slot : (q : ℕ) (a : Bytes) (x : ℕ) → Step t q a x → (1 ≤ x) × (x ≤ p.draft.slots)
   step_slot q a x s = let h = goes_within t q x ((next_goes t q x).0 s.next) in let e = slots_are in omega arith
 
   -- the name leads from q to slots of this set alone
@@ -70,7 +70,7 @@ module _ (t : Tree Bytes) (p : Prepared) (k : Known t p) where
     is_next : (x : ℕ) → member set x ≡ next (slotted t) q x
     is_next x = comes x ∙ k.nexts q x
 
-    pub in_model : (x : ℕ) → member set x ≡ true → (1 ≤ x) × (x ≤ p.draft.counts.slots)
+    pub in_model : (x : ℕ) → member set x ≡ true → (1 ≤ x) × (x ≤ p.draft.slots)
     in_model x e =
         let h = goes_within t q x ((next_goes t q x).0 ((next_correct t q x).0 (sym (is_next x) ∙ e))) in
         let l = slots_are in

@@ -49,13 +49,13 @@ checked_refused text (Err f) h e = (f, h)
 -- where the name of a slot stands in the table
 pub span_is : (table : Bor (List ℕ)) (p : Prepared) (m : Ready table p) (x : ℕ) →
     let t = m.model in
-    let s = span_at p.draft.names (number_at t x) in
+    let s = span_at p.draft.names.items (number_at t x) in
     (s.start ≡ name_start t (number_at t x)) × (s.end ≡ name_start t (number_at t x) + length (named t x))
     × ((s.start ≤ s.end) × (s.end ≤ length table.now))
 span_is table p m x =
     let t = m.model in
     let v = number_at t x in
-    let s = span_at p.draft.names v in
+    let s = span_at p.draft.names.items v in
     let b = number_known p.draft t m.known.holds x v refl in
     let i = p.draft.inside v b in
     let o = i.ordered in
@@ -97,7 +97,7 @@ module _ (table : Bor (List ℕ)) (children : Bytes) (p : Prepared) (m : Ready t
     part_start z = split (stop p.empty p.last w.held.0) part_allowed (λ g. short_at_start (is_short g) z)
 
     pub part_short : stop p.empty p.last w.held.0 ≡ false → 1 ≤ w.held.0 → (r : Span) →
-        r ≡ span_at p.draft.names (number_at m.model w.held.0) → (a e : ℕ) → a ≡ r.start → e ≡ r.end →
+        r ≡ span_at p.draft.names.items (number_at m.model w.held.0) → (a e : ℕ) → a ≡ r.start → e ≡ r.end →
         PartWhere table.now children (OfTable a e) × ((a ≤ e) × (e ≤ length table.now))
     part_short g l r i a e j n =
         let t = m.model in

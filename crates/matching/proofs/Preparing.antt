@@ -41,7 +41,7 @@ module _ (t : Tree Bytes) (r : Survey) (q : Follow) (s : Surveyed t r q) where
 -- what is surveyed of the draft, and kept
 pub made_known :
     (t : Tree Bytes) (p : Prepared) (r : Survey) → IsModel p.draft t → Surveyed t r p.follow → p.first ≡ r.first →
-    p.last ≡ r.last → p.empty ≡ r.empty → numbers_of (take p.draft.counts.slots p.names) ≡ leaves_of (nodes_of p.draft) →
+    p.last ≡ r.last → p.empty ≡ r.empty → numbers_of (take p.draft.slots p.names) ≡ leaves_of (nodes_of p.draft) →
     Known t p
 made_known t p r m s f l e n = record {
   holds = m.holds;

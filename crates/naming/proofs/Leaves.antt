@@ -60,7 +60,7 @@ module _ (d : Draft) (t : Tree Bytes) (held : Holds d t) where
 
   -- that number is one of the draft's, and says the slot's name
   module _ (s v : ℕ) (e : v ≡ number_at t s) where
-    pub number_known : v < d.counts.names
+    pub number_known : v < length d.names.items
     number_known = omega (arith, e, number_below t s, ap (λ c. c.names) held.counts_are)
 
     pub number_name : name_at d v ≡ named t s
@@ -69,10 +69,11 @@ module _ (d : Draft) (t : Tree Bytes) (held : Holds d t) where
         ∙ ap (λ (k : ℕ). get_or (names t) k []) e ∙ number_names t s
 
 -- a table that loads: the name is a part of it
-size_of : (d : Draft) (v : ℕ) → v < d.counts.names → (span_at d.names v).end - (span_at d.names v).start ≡ length (name_at d v)
+size_of : (d : Draft) (v : ℕ) → v < length d.names.items →
+    (span_at d.names.items v).end - (span_at d.names.items v).start ≡ length (name_at d v)
 size_of d v h =
     let p = d.inside v h in
-    let s = span_at d.names v in
+    let s = span_at d.names.items v in
     sym
     (length-take-le (s.end - s.start) (drop s.start d.source.now)
     (omega (arith, p.ordered, p.within, length-drop s.start d.source.now)))
@@ -80,9 +81,9 @@ size_of d v h =
 pub name_part : (table : Bor (List ℕ)) (d : Draft) (t : Tree Bytes) → Loaded table d t → (s v : ℕ) → HasSlot t s →
     v ≡ number_at t s → (r : Bor (List ℕ)) → IsNamePart d v r → NamePart table s r t
 name_part table d t l s v has e r p =
-    let k : v < d.counts.names = number_known d t l.holds s v e in
-    let a : (span_at d.names v).start ≡ name_start t (number_at t s) = l.places v k ∙ ap (name_start t) e in
-    let m : (span_at d.names v).end - (span_at d.names v).start ≡ length (named t s) =
+    let k : v < length d.names.items = number_known d t l.holds s v e in
+    let a : (span_at d.names.items v).start ≡ name_start t (number_at t s) = l.places v k ∙ ap (name_start t) e in
+    let m : (span_at d.names.items v).end - (span_at d.names.items v).start ≡ length (named t s) =
     size_of d v k ∙ ap length (number_name d t l.holds s v e) in
     record {
       loads = l.loads;
@@ -90,5 +91,5 @@ name_part table d t l s v has e r p =
       part =
           subst (λ (x : Bor (List ℕ)). IsPart x (name_start t (number_at t s)) (length (named t s)) r) l.source_is
           (subst (λ (k : ℕ). IsPart d.source k (length (named t s)) r) a
-          (subst (λ (k : ℕ). IsPart d.source (span_at d.names v).start k r) m p));
+          (subst (λ (k : ℕ). IsPart d.source (span_at d.names.items v).start k r) m p));
     }

@@ -9,12 +9,13 @@ use Rattle.fields.specs.Bits.{bits_of}
 use Rattle.fields.proofs.Places.{bits_length}
 use Rattle.fields.proofs.WholeBytes.{AllBytes, bits_paste, bytes_paste, bits_unique}
 use Rattle.model.specs.Limits.{table_room}
+use Rattle.model.specs.declared.Counts.{Counts}
 use Rattle.model.specs.declared.Kind.TheVariants.{Sequence, Choice}
 use Rattle.model.specs.declared.Node.{Node}
 use Rattle.meaning.specs.Trees.{Tree, leaf, sequence, choice, Members, last, and, count, nodes}
 use Rattle.names.specs.Bytes.{Bytes}
 use Rattle.table.specs.Fields.{Field, all_bits}
-use Rattle.table.specs.Encoding.{names, numbers, node_fields, tree_fields, all_tree_fields, table_fields, encode}
+use Rattle.table.specs.Encoding.{names, numbers, node_fields, name_fields, tree_fields, all_tree_fields, table_fields, encode}
 use Rattle.table.specs.Models.{Lawful}
 use Rattle.table.specs.Inner.Draft.{preorder, all_preorder, words}
 use Rattle.table.proofs.Words.{Words}
@@ -87,7 +88,9 @@ mutual
 -- those of a draft are its model's
 held_fields : (d : Draft) (t : Tree Bytes) → Holds d t → draft_fields d ≡ table_fields t
 held_fields d t h =
-    rw (h.nodes_are, h.names_are, h.counts_are, fields_preorder (numbers t))
+    ap₂ (λ (c : Counts) fs. record { width = 16; value = c.nodes } ∷ record { width = 16; value = c.names } ∷ fs)
+    h.counts_are
+    (ap₂ (λ fs ns. fs ++ name_fields ns) (ap all_node_fields h.nodes_are ∙ fields_preorder (numbers t)) h.names_are)
 
 module _ (d : Draft) (room : Bytes) where
   pub pack_start : IsPackable d room → Left room 0 (draft_fields d) room 0 (draft_fields d)

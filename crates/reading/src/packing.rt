@@ -36,13 +36,14 @@ pub fn pack(draft: &Draft, table: &mut [u8]) -> usize
     requires { IsPackable draft.now table.old }
     ensures answer { IsPacked draft.now table.old result table.new }
 {
+    let counts = draft.counts();
     let start = Bits { at: 0 };
-    let second = start.put(table, 16, draft.counts.nodes as u16);
-    let mut next = second.put(table, 16, draft.counts.names as u16);
+    let second = start.put(table, 16, counts.nodes as u16);
+    let mut next = second.put(table, 16, counts.names as u16);
     for &node in draft.nodes() {
         next = put_node(table, next, node);
     }
-    for n in 0..draft.counts.names {
+    for n in 0..counts.names {
         next = put_name(table, next, draft.name(NameNumber(n)));
     }
     next.at / 8

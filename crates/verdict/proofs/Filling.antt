@@ -14,7 +14,7 @@ use Rattle.draft.proofs.Named.{value, leaf_values}
 use Rattle.verdict.specs.Inner.Search.{numbers_of}
 
 -- the slots that a draft counts
-slot_count : (d : Draft) → length (leaves_of (nodes_of d)) ≡ d.counts.slots
+slot_count : (d : Draft) → length (leaves_of (nodes_of d)) ≡ d.slots
 slot_count d = sym (leaf_count_leaves (nodes_of d)) ∙ sym d.slots_counted
 
 -- the names among the nodes, with their places from 0
@@ -22,14 +22,14 @@ abbrev pub placed : List Node → List (ℕ × Node)
 placed ns = enumerate_from 0 (filter is_leaf ns)
 
 -- as many as the draft counts
-placed_count : (d : Draft) (ns : List Node) → ns ≡ nodes_of d → length (placed ns) ≡ d.counts.slots
+placed_count : (d : Draft) (ns : List Node) → ns ≡ nodes_of d → length (placed ns) ≡ d.slots
 placed_count d ns e =
     length-enumerate_from 0 (filter is_leaf ns) ∙ sym (length-map (filter is_leaf ns) value)
     ∙ ap length (sym (leaf_values ns) ∙ ap leaves_of e) ∙ slot_count d
 
 -- a turn: s is the place k, and v is the name number there
 abbrev pub Turn : Draft → (k s v : ℕ) → Type 0
-Turn d k s v = (s ≡ k) × (k < d.counts.slots) × (v ≡ get_or (leaves_of (nodes_of d)) k v)
+Turn d k s v = (s ≡ k) × (k < d.slots) × (v ≡ get_or (leaves_of (nodes_of d)) k v)
 
 pub leaf_turn : (d : Draft) (ns : List Node) (k s v : ℕ) (n : Node) → ns ≡ nodes_of d → v ≡ n.value →
     (k < length (placed ns)) × ((s, n) ≡ get_or (placed ns) k (s, n)) → Turn d k s v
@@ -60,7 +60,7 @@ names_more d names xs x s v f h t =
 -- all are written
 pub names_all : (d : Draft) (ns : List Node) (names : List NameNumber) (k : ℕ) → ns ≡ nodes_of d → k ≡ length (placed ns) →
     numbers_of (take k names) ≡ take k (leaves_of (nodes_of d)) →
-    numbers_of (take d.counts.slots names) ≡ leaves_of (nodes_of d)
+    numbers_of (take d.slots names) ≡ leaves_of (nodes_of d)
 names_all d ns names k e h f =
-    let c : k ≡ d.counts.slots = h ∙ placed_count d ns e in
+    let c : k ≡ d.slots = h ∙ placed_count d ns e in
     ap (λ n. numbers_of (take n names)) (sym c) ∙ f ∙ take_all k (leaves_of (nodes_of d)) (omega (arith, c, slot_count d))

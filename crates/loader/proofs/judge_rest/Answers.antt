@@ -1,5 +1,5 @@
 -- The last tests are passed, or the first that is not is the refusal. Assumes nothing.
-use Rattle.std.proofs.Common.{arith, ◌≡◌, ◌∙◌, sym, true, false, []}
+use Rattle.std.proofs.Common.{arith, ◌≡◌, ◌∙◌, sym, true, false, [], length}
 use Rattle.table.specs.Inner.Tests.{leaves_of, ordered, nests, large}
 use Rattle.draft.specs.Drafts.{nodes_of}
 use Rattle.loader.proofs.Rest.{slots, below, bad_order, is_large, is_long, passes, large_slots, large_deep, large_no}
@@ -9,13 +9,13 @@ use Rattle.loader.proofs.judge_rest.Goals.{then-draft-gt-SLOTS-via-then-draft-gt
 pub returns-then-not-in_order : goal.returns-then-not-in_order
 returns-then-not-in_order c =
     let d = c.args.draft.now in
-    bad_order d.source.now d c.requires (sym (rw c.nodes-nodes.ensures.nodes at c.in_order.ensures) ∙ c.if-not-in_order.true)
+    bad_order d.source.now d c.requires (sym (rw (c.len.ensures.value, c.nodes-nodes.ensures.nodes) at c.in_order.ensures) ∙ c.if-not-in_order.true)
 
 pub returns-then-draft-gt-SLOTS : goal.returns-then-draft-gt-SLOTS
 returns-then-draft-gt-SLOTS c =
     let d = c.args.draft.now in
-    let o : ordered d.counts.names 0 (leaves_of (nodes_of d)) ≡ true =
-    sym (rw c.nodes-nodes.ensures.nodes at c.in_order.ensures) ∙ c.if-not-in_order.false in
+    let o : ordered (length d.names.items) 0 (leaves_of (nodes_of d)) ≡ true =
+    sym (rw (c.len.ensures.value, c.nodes-nodes.ensures.nodes) at c.in_order.ensures) ∙ c.if-not-in_order.false in
     let l = slots d.source.now d c.requires in
     elim c.then-draft-gt-SLOTS.branch [
       | then-draft-gt-SLOTS-via-then-draft-gt-SLOTS w ↦
@@ -31,8 +31,8 @@ text_length-requires c = let d = c.args.draft.now in below d.source.now d c.requ
 pub returns-then-text_length-gt-TEXT : goal.returns-then-text_length-gt-TEXT
 returns-then-text_length-gt-TEXT c =
     let d = c.args.draft.now in
-    let o : ordered d.counts.names 0 (leaves_of (nodes_of d)) ≡ true =
-    sym (rw c.nodes-nodes.ensures.nodes at c.in_order.ensures) ∙ c.if-not-in_order.false in
+    let o : ordered (length d.names.items) 0 (leaves_of (nodes_of d)) ≡ true =
+    sym (rw (c.len.ensures.value, c.nodes-nodes.ensures.nodes) at c.in_order.ensures) ∙ c.if-not-in_order.false in
     let n : nests [] (nodes_of d) ≡ true =
     sym (rw c.nodes-nodes.ensures.nodes at c.is_nested.ensures) ∙ c.if-not-is_nested.false in
     let l = slots d.source.now d c.requires in
@@ -42,8 +42,8 @@ returns-then-text_length-gt-TEXT c =
 pub returns : goal.returns
 returns c =
     let d = c.args.draft.now in
-    let o : ordered d.counts.names 0 (leaves_of (nodes_of d)) ≡ true =
-    sym (rw c.nodes-nodes.ensures.nodes at c.in_order.ensures) ∙ c.if-not-in_order.false in
+    let o : ordered (length d.names.items) 0 (leaves_of (nodes_of d)) ≡ true =
+    sym (rw (c.len.ensures.value, c.nodes-nodes.ensures.nodes) at c.in_order.ensures) ∙ c.if-not-in_order.false in
     let n : nests [] (nodes_of d) ≡ true =
     sym (rw c.nodes-nodes.ensures.nodes at c.is_nested.ensures) ∙ c.if-not-is_nested.false in
     let l = slots d.source.now d c.requires in

@@ -1,10 +1,11 @@
 -- The rest is names, all distinct, or it is not. Assumes nothing.
-use Rattle.std.proofs.Common.{arith, ◌≡◌, ◌+◌, ◌-◌, ◌∙◌, refl, ap, sym, take, drop, true, false, subst, ℕ}
+use Rattle.std.proofs.Common.{arith, ◌≡◌, ◌+◌, ◌-◌, ◌∙◌, refl, ap, sym, take, drop, true, false, subst, ℕ, length, ◌∷◌, []}
+use lib.ListN.{length-append}
 use mathlib.Core.Bool.{false≢true, true≢false}
 use Rattle.std.specs.Prelude.{Option, Some, None, IfSome, IfNone, is_some}
 use Rattle.model.specs.declared.NameNumber.{NameNumber}
 use Rattle.model.specs.declared.Span.{Span}
-use Rattle.draft.specs.Drafts.{IsFirst}
+use Rattle.draft.specs.Drafts.{spans_of, IsFirst}
 use Rattle.names.specs.Bytes.{Bytes}
 use Rattle.table.specs.Refusals.{Fault}
 use Rattle.table.specs.Inner.Tests.{tidy, apart}
@@ -38,7 +39,7 @@ pub loop-k-init : goal.loop-k-init
 loop-k-init c = record {
   source = refl;
   nodes = refl;
-  count = c.requires.none;
+  count = ap length c.requires.none;
   reading = reading_none c.args.draft.now.source.now c.args.from c.args.names c.args.draft.now c.requires.none
       c.requires.behind.within;
 }
@@ -78,7 +79,7 @@ loop-k-preserved c =
     record {
       source = a.same_source ∙ l.invariant.source;
       nodes = a.nodes ∙ l.invariant.nodes;
-      count = ap (λ k. k.names) a.counts_are ∙ ap (λ k. k + 1) l.invariant.count;
+      count = ap length a.spans ∙ length-append (spans_of l.draft) (p ∷ []) ∙ ap (λ k. k + 1) l.invariant.count;
       reading = rw c.from-end.ensures
           (reading_more s c.args.from c.args.names l.draft l.at l.invariant.reading (ap (λ q. q.now) l.invariant.source) p h
           (omega (arith, l.invariant.count)) c.push_name.new.self a

@@ -26,16 +26,16 @@ stop empty last (suc s) = member last (suc s)
 -- the model t in memory, with what can come next in it and what can end a list of it
 pub record Known (t : Tree Bytes) (p : Prepared) : Type 0 where
   pub holds : Holds p.draft t
-  pub names_are : numbers_of (take p.draft.counts.slots p.names) ≡ leaves (numbers t)
+  pub names_are : numbers_of (take p.draft.slots p.names) ≡ leaves (numbers t)
   pub nexts : (q x : ℕ) → can p.first p.follow q x ≡ next (slotted t) q x
   pub stops : (s : ℕ) → stop p.empty p.last s ≡ ends (slotted t) s
-  pub few : p.draft.counts.slots ≤ slot_limit
+  pub few : p.draft.slots ≤ slot_limit
 
 -- and x is a slot of it
 pub record KnowsSlot (t : Tree Bytes) (p : Prepared) (x : ℕ) : Type 0 where
   pub known : Known t p
   pub low : 1 ≤ x
-  pub high : x ≤ p.draft.counts.slots
+  pub high : x ≤ p.draft.slots
 
 -- the slot that the name leads to from p; or it leads to none
 abbrev pub StepsTo : Tree Bytes → ℕ → Bytes → Option Slot → Type 0
