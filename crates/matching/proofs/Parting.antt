@@ -42,9 +42,9 @@ checked_fine text (Ok u) h e = h
 checked_fine text (Err f) h e = absurd (false≢true e)
 
 pub checked_refused : (text : Bytes) (r : Result (Unit {0}) Refusal) → CheckAnswer text r → true ≡ is_err r →
-    (f : Refusal) × Refused text f
+    (f : Refusal) × (r ≡ Err f) × Refused text f
 checked_refused text (Ok u) h e = absurd (false≢true (sym e))
-checked_refused text (Err f) h e = (f, h)
+checked_refused text (Err f) h e = (f, refl, h)
 
 -- where the name of a slot stands in the table
 pub span_is : (table : Bor (List ℕ)) (p : Prepared) (m : Ready table p) (x : ℕ) →

@@ -1,7 +1,7 @@
 -- From a draft that was loaded and surveyed to a model made ready. Assumes nothing.
 use mathlib.Core.Bool.{true, false, false≢true}
 use mathlib.Core.List.{List}
-use mathlib.Core.Path.{◌≡◌, sym, ap, ap₂, ◌∙◌}
+use mathlib.Core.Path.{◌≡◌, refl, sym, ap, ap₂, ◌∙◌}
 use Prim.Native.Nat.{ℕ, zero, suc}
 use lib.ListN.{take}
 use denote.Ref.{Bor}
@@ -61,6 +61,6 @@ is_ready table p (Ok u) h e = h
 is_ready table p (Err f) h e = absurd (false≢true e)
 
 pub not_ready : (table : Bor (List ℕ)) (p : Prepared) (r : Result (Unit {0}) Refusal) → PrepareAnswer table p r →
-    true ≡ is_err r → (f : Refusal) × NotPassed table.now f
+    true ≡ is_err r → (f : Refusal) × (r ≡ Err f) × NotPassed table.now f
 not_ready table p (Ok u) h e = absurd (false≢true (sym e))
-not_ready table p (Err f) h e = (f, h)
+not_ready table p (Err f) h e = (f, refl, h)

@@ -1,18 +1,21 @@
 -- The links of equal names, from the last slot down: which slots above k are linked, and which is seen of each name.
 -- Assumes nothing.
-use mathlib.Core.Bool.{false, true≢false}
+use mathlib.Core.Bool.{Bool, true, false, true≢false, ◌||◌}
 use mathlib.Core.List.{List}
 use mathlib.Core.Path.{◌≡◌, refl, sym, ap, subst, ◌∙◌}
 use Prim.Native.Nat.{ℕ, zero, suc, ◌-◌, ◌≤◌, ◌<◌}
 use native.Mathlib.Omega.{arith}
 use native.Mathlib.Decide.{ℕ_discrete}
+use lib.Dec.{eqb}
 use lib.ListN.{length, get_or, set, length-set}
 use lib.Seq.{get_or-set_same, get_or-set_other}
+use borrow.Author.Tests.{eqb-true, eqb-false}
 use Rattle.std.specs.Prelude.{Option, None, Some}
-use Rattle.std.specs.Option.{is_some}
 use Rattle.model.specs.Limits.{slot_limit, name_count_limit}
 use Rattle.model.specs.declared.NameNumber.{NameNumber}
 use Rattle.model.specs.declared.Slot.{Slot}
+use Rattle.slotset.specs.declared.SlotSet.{SlotSet}
+use Rattle.slotset.specs.Members.{member}
 use Rattle.verdict.specs.Inner.Search.{name_at, IsNextNamed, IsNextAlike, slot_of, link}
 use Rattle.verdict.specs.declared.Links.{Links}
 
@@ -22,13 +25,8 @@ pub record Linking (names : List NameNumber) (links : Links) (seen : List ℕ) (
   pub seen_room : length seen ≡ name_count_limit
   pub linked : (z : ℕ) → k < z → z ≤ length names → IsNextAlike names z (link links z)
   pub firsts : (n : NameNumber) → n.0 < name_count_limit → IsNextNamed names n k (slot_of (get_or seen n.0 0))
-  pub within : links.last ≤ length names
-  pub low : 0 < links.last → k < links.last
-  pub none : (z : ℕ) → links.last < z → k < z → z ≤ length names → link links z ≡ None
-
-pub none_of : (r : Option Slot) → is_some r ≡ false → r ≡ None
-none_of None e = refl
-none_of (Some y) e = absurd (true≢false e)
+  pub within : (z : ℕ) → member links.linked z ≡ true → z ≤ length names
+  pub none : (z : ℕ) → member links.linked z ≡ false → k < z → z ≤ length names → link links z ≡ None
 
 pub none_seen : (names : List NameNumber) (n : NameNumber) (k y : ℕ) → length names ≤ k → y ≡ 0 →
     IsNextNamed names n k (slot_of y)
@@ -86,18 +84,17 @@ module _ (names : List NameNumber) (x : ℕ) (is_slot : 0 < x) (here : x ≤ len
               (sym (get_or-set_other seen (name_at names x).0 n.0 y 0 i))
               (unlike n (slot_of (get_or seen n.0 0)) (λ e. i (ap (λ (m : NameNumber). m.0) e)) (l.firsts n h))
 
-      -- the links with that of x, and the last slot that is linked
-      pub linking_more : (last : ℕ) → length names ≤ slot_limit → last ≤ length names → links.last ≤ last →
-          (0 < last → x - 1 < last) → (last < x → next ≡ 0) →
-          Linking names (record { later = set links.later (x - 1) next; last = last })
+      -- the links with that of x, and the slots that have one
+      linking_more : (all : SlotSet) → length names ≤ slot_limit → ((z : ℕ) → member all z ≡ true → z ≤ length names) →
+          ((z : ℕ) → member all z ≡ false → member links.linked z ≡ false) → (member all x ≡ false → next ≡ 0) →
+          Linking names (record { later = set links.later (x - 1) next; linked = all })
           (set seen (name_at names x).0 y) (x - 1)
-      linking_more last few within more low none = record {
+      linking_more all few within more none = record {
         room = length-set links.later (x - 1) next ∙ l.room;
         seen_room = length-set seen (name_at names x).0 y ∙ l.seen_room;
         linked = λ z c d. go_linked z c d (ℕ_discrete z x);
         firsts = firsts_more;
         within = within;
-        low = low;
         none = λ z b c d. go_none z b c d (ℕ_discrete z x);
       }
         where
@@ -118,9 +115,37 @@ module _ (names : List NameNumber) (x : ℕ) (is_slot : 0 < x) (here : x ≤ len
               let h : x < z = omega (arith, c, i) in
               subst (IsNextAlike names z) (sym (ap slot_of (kept z h))) (l.linked z h d)
 
-          go_none : (z : ℕ) → last < z → x - 1 < z → z ≤ length names → Dec (z ≡ x) →
+          go_none : (z : ℕ) → member all z ≡ false → x - 1 < z → z ≤ length names → Dec (z ≡ x) →
               slot_of (get_or (set links.later (x - 1) next) (z - 1) 0) ≡ None
-          go_none z b c d (yes i) = ap slot_of (put z i ∙ none (omega (arith, b, i)))
+          go_none z b c d (yes i) = ap slot_of (put z i ∙ none (sym (ap (member all) i) ∙ b))
           go_none z b c d (no i) =
               let h : x < z = omega (arith, c, i) in
-              ap slot_of (kept z h) ∙ l.none z (omega (arith, b, more)) h d
+              ap slot_of (kept z h) ∙ l.none z (more z b) h d
+
+      -- where a slot with the name of x is seen, so that x is one of them
+      pub linking_with : (all : SlotSet) (s : ℕ) → length names ≤ slot_limit → s ≡ x →
+          ((z : ℕ) → member all z ≡ (member links.linked z || eqb z s)) →
+          Linking names (record { later = set links.later (x - 1) next; linked = all })
+          (set seen (name_at names x).0 y) (x - 1)
+      linking_with all s few here_too with_s = linking_more all few
+          (λ z e. go_within z (member links.linked z) refl (sym (with_s z) ∙ e))
+          (λ z e. go_more z (member links.linked z) (sym (with_s z) ∙ e))
+          (λ e. absurd (eqb-false x s (go_none (member links.linked x) (sym (with_s x) ∙ e)) (sym here_too)))
+        where
+          go_within : (z : ℕ) (b : Bool) → member links.linked z ≡ b → (b || eqb z s) ≡ true → z ≤ length names
+          go_within z true i e = l.within z i
+          go_within z false i e = omega (arith, eqb-true z s e, here_too)
+
+          go_more : (z : ℕ) (b : Bool) → (b || eqb z s) ≡ false → b ≡ false
+          go_more z true e = e
+          go_more z false e = refl
+
+          go_none : (b : Bool) → (b || eqb x s) ≡ false → eqb x s ≡ false
+          go_none true e = absurd (true≢false e)
+          go_none false e = e
+
+      -- where none is seen
+      pub linking_same : length names ≤ slot_limit → next ≡ 0 →
+          Linking names (record { later = set links.later (x - 1) next; linked = links.linked })
+          (set seen (name_at names x).0 y) (x - 1)
+      linking_same few none = linking_more links.linked few l.within (λ z e. e) (λ e. none)

@@ -10,10 +10,10 @@ pub returns-then-is_err-clause-place : goal.returns-then-is_err-clause-place
 returns-then-is_err-clause-place c =
     let l = rw c.empty-model.ensures.source_is at c.fill.ensures.answer in
     elim c.then-is_err.branch [
-      | then-is_err-via-then-is_err w ↦ refused (not_ready _ _ _ l w.if-is_err.ensures.value).1
+      | then-is_err-via-then-is_err w ↦ refused (not_ready _ _ _ l w.if-is_err.ensures.value).2
       | then-is_err-via-else-is_err+then-is_err-2 w ↦
           let m = is_ready _ _ _ l w.if-is_err.ensures.value in
-          bad_children m.model (ready_passed _ _ m) (checked_refused _ _ w.check.ensures w.if-is_err-2.ensures.value).1
+          bad_children m.model (ready_passed _ _ m) (checked_refused _ _ w.check.ensures w.if-is_err-2.ensures.value).2
     ]
 
 pub returns-in-Some : goal.returns-in-Some

@@ -20,7 +20,7 @@ pub first_clash-requires-clause-numbered : goal.first_clash-requires-clause-numb
 first_clash-requires-clause-numbered c =
     let t = c.in_ok-fill.ensures.answer.0 in
     let m = loaded_model _ _ t c.in_ok-fill.ensures.answer.1 in
-    model_numbered c.fill.new.draft t m _ c.slot_names-self.ensures.answer
+    model_numbered c.fill.new.draft t m _ c.fill_slot_names.ensures.answer
 
 pub returns-in-Some : goal.returns-in-Some
 returns-in-Some c =
@@ -31,7 +31,7 @@ returns-in-Some c =
     let s = model_surveyed d t m _ c.nodes.ensures.nodes _ _ c.of-survey.ensures in
     record {
       answer = ambiguous t l.loads
-          (model_clash d t m _ _ s _ c.slot_names-self.ensures.answer (Some c.in-Some.clash) c.in-Some.ensures.answer);
+          (model_clash d t m _ _ s _ c.fill_slot_names.ensures.answer (Some c.in-Some.clash) c.in-Some.ensures.answer);
     }
 
 pub returns-in-None : goal.returns-in-None
@@ -41,7 +41,7 @@ returns-in-None c =
     let d = c.fill.new.draft in
     let m = loaded_model _ _ t l in
     let s = model_surveyed d t m _ c.nodes.ensures.nodes _ _ c.of-survey.ensures in
-    let names = c.slot_names-self.ensures.answer in
+    let names = c.fill_slot_names.ensures.answer in
     record {
       answer = record {
         model = t;

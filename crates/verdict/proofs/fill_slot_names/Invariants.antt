@@ -3,7 +3,7 @@ use Rattle.model.specs.Limits.{slot_limit}
 use Rattle.table.specs.Inner.Tests.{leaves_of}
 use Rattle.draft.specs.Drafts.{nodes_of}
 use Rattle.verdict.specs.Inner.Search.{numbers_of}
-use Rattle.verdict.proofs.slot_names.Given as goal
+use Rattle.verdict.proofs.fill_slot_names.Given as goal
 
 abbrev pub invariant-loop-slot : goal.invariant-loop-slot
 invariant-loop-slot l = record {

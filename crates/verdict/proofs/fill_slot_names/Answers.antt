@@ -4,9 +4,9 @@ use Rattle.std.proofs.lemmas.Iterator.Consumers.{YieldsList-at, YieldsList-from_
 use Rattle.model.specs.Nodes.{is_leaf}
 use Rattle.draft.proofs.Named.{name_test}
 use Rattle.verdict.proofs.Filling.{placed, Turn, leaf_turn, names_more, names_all}
-use Rattle.verdict.proofs.slot_names.Given.{iterator-loop-slot}
-use Rattle.verdict.proofs.slot_names.Goals as goal
-use Rattle.verdict.proofs.slot_names.Goals.{After-into_iter-slot-iterator}
+use Rattle.verdict.proofs.fill_slot_names.Given.{iterator-loop-slot}
+use Rattle.verdict.proofs.fill_slot_names.Goals as goal
+use Rattle.verdict.proofs.fill_slot_names.Goals.{After-into_iter-slot-iterator}
 
 -- what the chain yields
 road : (c : After-into_iter-slot-iterator) →
