@@ -28,9 +28,12 @@ impl<'a> Out<'a> {
         requires { self.old.at + length bytes.now ≤ length self.old.text.now }
         ensures { Adds self.old self.new bytes.now }
     {
-        let end = self.at + bytes.len();
-        self.text[self.at..end].copy_from_slice(bytes);
-        self.at = end;
+        let mut at = self.at;
+        for &byte in bytes {
+            self.text[at] = byte;
+            at += 1;
+        }
+        self.at = at;
     }
 
     fn push_mark(&mut self, mark: Mark)
