@@ -26,6 +26,7 @@ pub record Linking (names : List NameNumber) (links : Links) (seen : List ℕ) (
   pub linked : (z : ℕ) → k < z → z ≤ length names → IsNextAlike names z (link links z)
   pub firsts : (n : NameNumber) → n.0 < name_count_limit → IsNextNamed names n k (slot_of (get_or seen n.0 0))
   pub within : (z : ℕ) → member links.linked z ≡ true → z ≤ length names
+  pub low : (z : ℕ) → member links.linked z ≡ true → k < z
   pub none : (z : ℕ) → member links.linked z ≡ false → k < z → z ≤ length names → link links z ≡ None
 
 pub none_seen : (names : List NameNumber) (n : NameNumber) (k y : ℕ) → length names ≤ k → y ≡ 0 →
@@ -85,16 +86,18 @@ module _ (names : List NameNumber) (x : ℕ) (is_slot : 0 < x) (here : x ≤ len
               (unlike n (slot_of (get_or seen n.0 0)) (λ e. i (ap (λ (m : NameNumber). m.0) e)) (l.firsts n h))
 
       -- the links with that of x, and the slots that have one
-      linking_more : (all : SlotSet) → length names ≤ slot_limit → ((z : ℕ) → member all z ≡ true → z ≤ length names) →
-          ((z : ℕ) → member all z ≡ false → member links.linked z ≡ false) → (member all x ≡ false → next ≡ 0) →
+      pub linking_more : (all : SlotSet) → length names ≤ slot_limit → ((z : ℕ) → member all z ≡ true → z ≤ length names) →
+          ((z : ℕ) → member all z ≡ false → member links.linked z ≡ false) → ((z : ℕ) → member all z ≡ true → x - 1 < z) →
+          (member all x ≡ false → next ≡ 0) →
           Linking names (record { later = set links.later (x - 1) next; linked = all })
           (set seen (name_at names x).0 y) (x - 1)
-      linking_more all few within more none = record {
+      linking_more all few within more low none = record {
         room = length-set links.later (x - 1) next ∙ l.room;
         seen_room = length-set seen (name_at names x).0 y ∙ l.seen_room;
         linked = λ z c d. go_linked z c d (ℕ_discrete z x);
         firsts = firsts_more;
         within = within;
+        low = low;
         none = λ z b c d. go_none z b c d (ℕ_discrete z x);
       }
         where
@@ -130,6 +133,7 @@ module _ (names : List NameNumber) (x : ℕ) (is_slot : 0 < x) (here : x ≤ len
       linking_with all s few here_too with_s = linking_more all few
           (λ z e. go_within z (member links.linked z) refl (sym (with_s z) ∙ e))
           (λ z e. go_more z (member links.linked z) (sym (with_s z) ∙ e))
+          (λ z e. go_low z (member links.linked z) refl (sym (with_s z) ∙ e))
           (λ e. absurd (eqb-false x s (go_none (member links.linked x) (sym (with_s x) ∙ e)) (sym here_too)))
         where
           go_within : (z : ℕ) (b : Bool) → member links.linked z ≡ b → (b || eqb z s) ≡ true → z ≤ length names
@@ -140,6 +144,10 @@ module _ (names : List NameNumber) (x : ℕ) (is_slot : 0 < x) (here : x ≤ len
           go_more z true e = e
           go_more z false e = refl
 
+          go_low : (z : ℕ) (b : Bool) → member links.linked z ≡ b → (b || eqb z s) ≡ true → x - 1 < z
+          go_low z true i e = omega (arith, l.low z i)
+          go_low z false i e = omega (arith, eqb-true z s e, here_too)
+
           go_none : (b : Bool) → (b || eqb x s) ≡ false → eqb x s ≡ false
           go_none true e = absurd (true≢false e)
           go_none false e = e
@@ -148,4 +156,5 @@ module _ (names : List NameNumber) (x : ℕ) (is_slot : 0 < x) (here : x ≤ len
       pub linking_same : length names ≤ slot_limit → next ≡ 0 →
           Linking names (record { later = set links.later (x - 1) next; linked = links.linked })
           (set seen (name_at names x).0 y) (x - 1)
-      linking_same few none = linking_more links.linked few l.within (λ z e. e) (λ e. none)
+      linking_same few none =
+          linking_more links.linked few l.within (λ z e. e) (λ z e. omega (arith, l.low z e)) (λ e. none)

@@ -14,6 +14,7 @@ loop-k-init c = record {
   linked = λ z a b. absurd (omega (arith, a, b));
   firsts = λ n h. none_seen _ n _ _ (omega arith) (get_or-replicate name_count_limit n.0 0 0 h);
   within = λ z e. absurd (true≢false (sym e ∙ c.requires.empty z));
+  low = λ z e. absurd (true≢false (sym e ∙ c.requires.empty z));
   none = λ z e a b. absurd (omega (arith, a, b));
 }
 
