@@ -131,22 +131,18 @@ module _ (names : List NameNumber) (x : ℕ) (is_slot : 0 < x) (here : x ≤ len
           Linking names (record { later = set links.later (x - 1) next; linked = all })
           (set seen (name_at names x).0 y) (x - 1)
       linking_with all s few here_too with_s = linking_more all few
-          (λ z e. go_within z (member links.linked z) refl (sym (with_s z) ∙ e))
+          (λ z e. (go_in z (member links.linked z) refl (sym (with_s z) ∙ e)).1)
           (λ z e. go_more z (member links.linked z) (sym (with_s z) ∙ e))
-          (λ z e. go_low z (member links.linked z) refl (sym (with_s z) ∙ e))
+          (λ z e. (go_in z (member links.linked z) refl (sym (with_s z) ∙ e)).0)
           (λ e. absurd (eqb-false x s (go_none (member links.linked x) (sym (with_s x) ∙ e)) (sym here_too)))
         where
-          go_within : (z : ℕ) (b : Bool) → member links.linked z ≡ b → (b || eqb z s) ≡ true → z ≤ length names
-          go_within z true i e = l.within z i
-          go_within z false i e = omega (arith, eqb-true z s e, here_too)
+          go_in : (z : ℕ) (b : Bool) → member links.linked z ≡ b → (b || eqb z s) ≡ true → (x - 1 < z) × (z ≤ length names)
+          go_in z true i e = (omega (arith, l.low z i), l.within z i)
+          go_in z false i e = let h : z ≡ x = eqb-true z s e ∙ here_too in (omega (arith, h), omega (arith, h))
 
           go_more : (z : ℕ) (b : Bool) → (b || eqb z s) ≡ false → b ≡ false
           go_more z true e = e
           go_more z false e = refl
-
-          go_low : (z : ℕ) (b : Bool) → member links.linked z ≡ b → (b || eqb z s) ≡ true → x - 1 < z
-          go_low z true i e = omega (arith, l.low z i)
-          go_low z false i e = omega (arith, eqb-true z s e, here_too)
 
           go_none : (b : Bool) → (b || eqb x s) ≡ false → eqb x s ≡ false
           go_none true e = absurd (true≢false e)
